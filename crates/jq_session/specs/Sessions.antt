@@ -7,6 +7,7 @@ use Rattle.jq_pages.specs.Edits.{Reason, no_place, full, most_inputs}
 use Rattle.jq_pages.specs.declared.steps.Steps.{Ghosts}
 use Rattle.jq_starts.specs.Starts.{starts_in}
 use Rattle.jq_stream.specs.Filters.{filter_job, filter_mode}
+use Rattle.jq_syntax.specs.Chosen.{Chosen, chosen}
 use Rattle.jq_session.specs.States.{State, Point, point, state_in, whole}
 use Rattle.jq_session.specs.declared.paged.PagedSession.{PagedSession}
 use Rattle.jq_session.specs.declared.refusals.Refusal.{Refusal}
@@ -42,6 +43,10 @@ starts_kept (kept.Whole s) = starts_in s.starts
 abbrev pub starts_of : Session → ℕ
 starts_of s = starts_kept s.kept
 
+-- the options under which its filters are compiled
+abbrev pub options_of : Session → Chosen
+options_of s = chosen s.options
+
 abbrev pub point_of : Session → Point
 point_of s = point (state_of s) (starts_of s)
 
@@ -51,6 +56,13 @@ IsRefusal refusal.NoPlace after = after ≡ Err no_place
 IsRefusal refusal.Full after = after ≡ Err full
 IsRefusal refusal.NoMemory after = IsOk after
 IsRefusal refusal.Write after = ⊥
+
+-- A move is refused if one of its places is not there, and with `NoMemory` only if the definition accepts it.
+abbrev pub IsMoveRefusal : Refusal → Result State Reason → Type 0
+IsMoveRefusal refusal.NoPlace after = after ≡ Err no_place
+IsMoveRefusal refusal.Full after = ⊥
+IsMoveRefusal refusal.NoMemory after = IsOk after
+IsMoveRefusal refusal.Write after = ⊥
 
 -- A start is refused if there are more inputs than a session takes, and with `NoMemory` only if there are not.
 abbrev pub IsStartRefusal : Refusal → ℕ → Type 0

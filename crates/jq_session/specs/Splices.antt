@@ -1,5 +1,5 @@
 -- What an edit changed, as splices of the output and of the errors.
-use Rattle.std.specs.Prelude.{◌≡◌, ℕ, List, []}
+use Rattle.std.specs.Prelude.{◌≡◌, ℕ, List, [], length}
 use Rattle.std.specs.List.{flat_map}
 use Rattle.jq_meaning.specs.Runs.{Run, Item, none}
 use Rattle.jq_pages.specs.Changes.{IsChange}
@@ -9,8 +9,9 @@ use Rattle.jq_pages.specs.Folds.{Folded}
 use Rattle.jq_pages.specs.Pieces.{PieceView}
 use Rattle.jq_pages.specs.Splices.{IsSplice, came}
 use Rattle.jq_pages.specs.declared.changes.Change.{Change}
+use Rattle.jq_pages.specs.declared.splices.Splice.{Splice}
 use Rattle.jq_stream.specs.Outcomes.{Job, printed_of, ending_report}
-use Rattle.jq_session.specs.States.{Plan, each, fold, whole, State, outcome}
+use Rattle.jq_session.specs.States.{Plan, each, fold, whole, State, Halves, outcome}
 use Rattle.jq_session.specs.declared.splices.Follow.{Follow}
 
 -- what the run on the value that an edit puts in writes, by what a run writes; a removal puts nothing in
@@ -47,4 +48,23 @@ pub record Follows (f : Follow) (edit : Edit) (old new : State) : Type 0 where
   pub out : IsSplice f.out (outcome old).output (outcome new).output
   pub err : IsSplice f.err (outcome old).errors (outcome new).errors
   pub put : IsPut old.plan edit f old new
+  pub status : f.status ≡ (outcome new).status
+
+-- The answers to a move: that to the removal and that to the insertion.
+pub record FollowsMove (first second : Follow) (k l : ℕ) (old new : State) : Type 0 where
+  pub halves : Halves k l old new
+  pub removal : Follows first (remove k) old halves.middle
+  pub insertion : Follows second (insert l halves.value) halves.middle new
+
+-- The splice replaces all old bytes by all new ones.
+pub record ReplacesAll (s : Splice) (old new : List ℕ) : Type 0 where
+  pub splice : IsSplice s old new
+  pub at : s.at ≡ 0
+  pub cut : s.cut ≡ length old
+  pub put : s.put.items ≡ new
+
+-- The answer to another filter, which writes everything again.
+pub record FollowsFilter (f : Follow) (old new : State) : Type 0 where
+  pub out : ReplacesAll f.out (outcome old).output (outcome new).output
+  pub err : ReplacesAll f.err (outcome old).errors (outcome new).errors
   pub status : f.status ≡ (outcome new).status

@@ -4,10 +4,10 @@ use Rattle.jv_meaning.specs.Value.{Value}
 use Rattle.jq_folds.specs.Pieces.{FoldState}
 use Rattle.jq_pages.specs.Changes.{IsMeeting}
 use Rattle.jq_pages.specs.Contents.{folded_in}
-use Rattle.jq_pages.specs.Edits.{Edit, added, place}
+use Rattle.jq_pages.specs.Edits.{Edit, added, insert, place, remove}
 use Rattle.jq_pages.specs.Folds.{Fold, Rises}
 use Rattle.jq_stream.specs.Present.{run_count}
-use Rattle.jq_session.specs.States.{Plan, each, fold, whole, State, after}
+use Rattle.jq_session.specs.States.{Plan, each, fold, whole, State, Halves, after, after_move}
 
 -- From input `m` of the new list on, which is after the edit, the fold goes on as it did: its state there is the one that it had
 -- before the same remaining inputs. Or `m` is the count of the new inputs, so that none remains.
@@ -27,12 +27,23 @@ AllowedStarts whole edit old new a b = Rises a b (run_count new.mode new.job new
 abbrev pub IsStarted : Edit → (old : State) → (old_starts new_starts : ℕ) → Type 0
 IsStarted edit old a b = MatchResult (after edit old) (λ new. AllowedStarts old.plan edit old new a b) (λ reason. b ≡ a)
 
+-- A move may start the filter as often as its removal and its insertion together.
+abbrev pub AllowedMove : Plan → (k l : ℕ) → (old new : State) → (old_starts new_starts : ℕ) → Type 0
+AllowedMove each k l old new a b = Rises a b 1
+AllowedMove (fold f) k l old new a b = (h : Halves k l old new) (m n : ℕ) → GoesOnFrom f (remove k) old.inputs h.middle.inputs m
+    → GoesOnFrom f (insert l h.value) h.middle.inputs new.inputs n → Rises a b (((m - k) + 129) + ((n - l) + 129))
+AllowedMove whole k l old new a b = (h : Halves k l old new) → Rises a b (run_count h.middle.mode h.middle.job h.middle.inputs + run_count new.mode new.job new.inputs)
+
+-- A move that the definition accepts may start the filter so often, also if memory runs out. Any other move starts nothing.
+abbrev pub IsMoveStarted : (k l : ℕ) → (old : State) → (old_starts new_starts : ℕ) → Type 0
+IsMoveStarted k l old a b = MatchResult (after_move k l old) (λ new. AllowedMove old.plan k l old new a b) (λ reason. b ≡ a)
+
 -- how often runs from scratch start the filter; a fold that is kept input by input: once for each input, for its start and at its end
 abbrev pub first_starts : Plan → State → ℕ
 first_starts each first = run_count first.mode first.job first.inputs
 first_starts (fold f) first = length first.inputs + 2
 first_starts whole first = run_count first.mode first.job first.inputs
 
--- The start of a session may start the filter so often.
+-- The start of a session may start the filter so often, and so may a session start another filter that it takes.
 abbrev pub IsFirstRun : State → (old_starts new_starts : ℕ) → Type 0
 IsFirstRun first a b = Rises a b (first_starts first.plan first)
