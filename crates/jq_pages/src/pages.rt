@@ -33,9 +33,10 @@ impl<S: Steps> Pages<S> {
     ghost use Rattle.jv_data.specs.View.{view};
     ghost use Rattle.std.specs.List.{flat_map};
     ghost use Rattle.jq_pages.specs.Changes.{IsChange, IsStart, IsStarted};
-    ghost use Rattle.jq_pages.specs.Contents.{folded_in, folded_of, paged_in, starts_of};
+    ghost use Rattle.jq_pages.specs.Contents.{folded_in, folded_of, inputs_paged_in, paged_in, starts_of};
     ghost use Rattle.jq_pages.specs.Edits.{after, insert, remove, replace};
     ghost use Rattle.jq_pages.specs.Folds.{all, head, pieces, tail};
+    ghost use Rattle.jq_pages.specs.Moves.{after_move, IsMove, IsMoveRefusal, IsMoveStarted};
     ghost use Rattle.jq_pages.specs.Pieces.{piece_view};
     ghost use Rattle.jq_pages.specs.Refusals.{IsRefusal, IsStartRefusal};
     ghost use Rattle.jq_pages.specs.Splices.{IsSpliced};
@@ -164,6 +165,27 @@ impl<S: Steps> Pages<S> {
         Ok(edited)
     }
 
+    /// Moves an input: removes the one of number `k`, and inserts it at place `l` of the shorter list. The first answer is that of the
+    /// removal, the second that of the insertion. If it is refused, nothing changed.
+    pub fn shift(&mut self, k: u64, l: u64) -> Result<(Edited, Edited), Refusal>
+        ensures moved { OnOk result (after_move k l (folded_of self.old) ≡ Ok (folded_of self.new)) }
+        ensures halves { IfOk result (λ m. IsMove k l m.0 m.1 (folded_of self.old) (folded_of self.new)) }
+        ensures refused { IfErr result (λ refusal. IsMoveRefusal refusal (after_move k l (folded_of self.old))) }
+        ensures unchanged { OnErr result (folded_of self.new ≡ folded_of self.old) }
+        ensures started { IsMoveStarted k l (folded_of self.old) (starts_of self.old) (starts_of self.new) }
+    {
+        if k >= self.len() || l >= self.len() {
+            return Err(Refusal::NoPlace);
+        }
+        let (j, at) = find(&self.kept.groups, &self.kept.pages, k as usize);
+        let Ok(value) = self.kept.pages[j].inputs[at].clone() else {
+            return Err(Refusal::NoMemory);
+        };
+        let first = self.remove(k)?;
+        let second = self.insert(l, value)?;
+        Ok((first, second))
+    }
+
     /// The number of inputs.
     pub fn len(&self) -> u64
         ensures count { result ≡ length (folded_of self.now).inputs }
@@ -201,6 +223,8 @@ impl<S: Steps> Pages<S> {
     pub fn page_count(&self) -> usize
         ensures count { result ≡ length (paged_in self.now) }
         ensures joined { flat_map (λ ps. ps) (paged_in self.now) ≡ pieces (folded_of self.now) }
+        ensures inputs_count { result ≡ length (inputs_paged_in self.now) }
+        ensures inputs_joined { flat_map (λ vs. vs) (inputs_paged_in self.now) ≡ (folded_of self.now).inputs }
     {
         self.kept.pages.len()
     }
@@ -212,6 +236,15 @@ impl<S: Steps> Pages<S> {
         ensures size { (1 ≤ length result.now) × (length result.now ≤ 64) }
     {
         &self.kept.pages[j].pieces.items
+    }
+
+    /// The inputs of a page, from 1 to 64. Those of all pages, one page after the other, are all inputs.
+    pub fn inputs(&self, j: usize) -> &[Val]
+        requires { j < length (inputs_paged_in self.now) }
+        ensures inputs { slice_get (inputs_paged_in self.now) j ≡ Some (map view result.now) }
+        ensures size { (1 ≤ length result.now) × (length result.now ≤ 64) }
+    {
+        &self.kept.pages[j].inputs
     }
 
     /// The totals of all pieces: that of `begin`, those of the inputs and that of `close`.
@@ -229,5 +262,12 @@ impl<S: Steps> Pages<S> {
         ensures starts { S.starts result.now ≡ starts_of self.now }
     {
         &self.kept.steps
+    }
+    /// Gives the steps back.
+    pub fn into_steps(self) -> S
+        ensures fold { S.fold result ≡ (folded_of self).fold }
+        ensures starts { S.starts result ≡ starts_of self }
+    {
+        self.kept.steps
     }
 }
