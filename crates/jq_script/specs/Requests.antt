@@ -11,13 +11,20 @@ pub data Change : Type 0 where
   replace : ℕ → Change
   append : Change
 
+-- What is requested of a session with its present filter.
 pub data Request : Type 0 where
   change : Change → (text : List ℕ) → Request
   remove : ℕ → Request
+  move : (k l : ℕ) → Request  -- input `k` is removed and inserted at place `l` of the shorter list
   show : Request
   errors : Request
   status : Request
   unknown : Request
+
+-- The instruction of a line: such a request, or another filter.
+pub data Instruction : Type 0 where
+  request : Request → Instruction
+  filter : (text : List ℕ) → Instruction
 
 -- ---- the parts of a line
 
@@ -57,14 +64,25 @@ abbrev pub change_by : (ℕ → Change) → Option Parts → Request
 change_by edit (Some parts) = change_at edit (place_of parts.word) parts.rest
 change_by edit None = unknown
 
+abbrev pub move_at : (k l : Option ℕ) → Request
+move_at (Some k) (Some l) = move k l
+move_at (Some k) None = unknown
+move_at None l = unknown
+
+-- a number, exactly one space, and a number
+abbrev pub move_by : Option Parts → Request
+move_by (Some parts) = move_at (place_of parts.word) (place_of parts.rest)
+move_by None = unknown
+
 -- a word, exactly one space, and the rest
 abbrev pub command : (word rest : List ℕ) → Request
 command word rest =
     if bytes_eq word (codes "insert") then change_by insert (around_space rest)
     else (if bytes_eq word (codes "replace") then change_by replace (around_space rest)
     else (if bytes_eq word (codes "remove") then remove_at (place_of rest)
+    else (if bytes_eq word (codes "move") then move_by (around_space rest)
     else (if bytes_eq word (codes "append") then change append rest
-    else unknown)))
+    else unknown))))
 
 abbrev pub word_alone : List ℕ → Request
 word_alone word =
@@ -73,14 +91,20 @@ word_alone word =
     else (if bytes_eq word (codes "status") then status
     else unknown))
 
--- the request of a line by its parts around the first space, if it has a space
-abbrev pub request_by : List ℕ → Option Parts → Request
-request_by line (Some parts) = command parts.word parts.rest
-request_by line None = word_alone line
+-- ---- the instruction
+
+-- a word, exactly one space, and the rest
+abbrev pub instruction_with : (word rest : List ℕ) → Instruction
+instruction_with word rest = if bytes_eq word (codes "filter") then filter rest else request (command word rest)
+
+-- the instruction of a line by its parts around the first space, if it has a space
+abbrev pub instruction_by : List ℕ → Option Parts → Instruction
+instruction_by line (Some parts) = instruction_with parts.word parts.rest
+instruction_by line None = request (word_alone line)
 
 -- the most bytes of a line, its newline not counted
 abbrev pub line_limit : ℕ
 line_limit = 16777216
 
-abbrev pub request_of : List ℕ → Request
-request_of line = if nat_lt line_limit (length line) then unknown else request_by line (around_space line)
+abbrev pub instruction_of : List ℕ → Instruction
+instruction_of line = if nat_lt line_limit (length line) then request unknown else instruction_by line (around_space line)

@@ -6,8 +6,8 @@ ghost use Rattle.jq_devices.specs.Writing.{AppendsFirst};
 ghost use Rattle.jq_devices.specs.declared.faults.StreamFault.TheVariants.{Read as ReadFault, Write as WriteFault};
 ghost use Rattle.jq_session.specs.Sessions.{state_of};
 ghost use Rattle.jq_session.specs.States.{outcome};
-ghost use Rattle.jq_script.specs.Answers.{answer_line, err_answer, out_answer, spaced, splice_answer};
-ghost use Rattle.jq_script.specs.private.Replies.{answer_of, made_answer};
+ghost use Rattle.jq_script.specs.Answers.{answer_line, changes, err_answer, out_answer, spaced, splice_answer};
+ghost use Rattle.jq_script.specs.private.Replies.{answer_of, made_answer, moved_answer};
 
 use crate::replies::{Reply, refused_line};
 use itoa::Buffer;
@@ -17,8 +17,8 @@ use jq_session::{Follow, Session};
 use jv_data::NoMemory;
 use std::alloc::Global;
 
-/// Writes an answer and flushes the writer. With `follow`, that to an edit has what it changed. After a fault, the first bytes of
-/// the answer were written. A refusal allocates nothing.
+/// Writes an answer and flushes the writer. With `follow`, that to an edit, a move or another filter has what it changed. After a
+/// fault, the first bytes of the answer were written. A refusal allocates nothing.
 pub(crate) fn write_reply<W: Write>(
     alloc: Global,
     follow: bool,
@@ -34,14 +34,15 @@ pub(crate) fn write_reply<W: Write>(
 {
     match reply {
         Reply::Made(made) => write_made(alloc, follow, made, output),
-        Reply::Refused(refused) => write(output, refused_line(*refused)),
+        Reply::Moved(removal, insertion) => write_moved(alloc, follow, removal, insertion, output),
+        Reply::Refused(refused) => write(output, refused_line(refused)),
         Reply::Output => write_output(alloc, session, output),
         Reply::Errors => write_errors(alloc, session, output),
         Reply::Status => write_number(alloc, b"status", u128::from(session.status()), output),
     }
 }
 
-// Writes the answer to an accepted edit, all of it at once.
+// Writes the answer to an accepted edit or filter, all of it at once.
 fn write_made<W: Write>(
     alloc: Global,
     follow: bool,
@@ -58,16 +59,56 @@ fn write_made<W: Write>(
     write(output, &answer)
 }
 
+// Writes the answer to an accepted move, all of it at once.
+fn write_moved<W: Write>(
+    alloc: Global,
+    follow: bool,
+    removal: &Follow,
+    insertion: &Follow,
+    output: &mut Watched<W>,
+) -> Result<(), StreamFault>
+    ensures ok { OnOk result (Appends (W.contents (device_of output.old)) (W.contents (device_of output.new)) (moved_answer follow removal.now insertion.now)) }
+    ensures err { OnErr result (AppendsFirst (W.contents (device_of output.old)) (W.contents (device_of output.new)) (moved_answer follow removal.now insertion.now)) }
+    ensures unfailed { OnOk result (failures_of output.new ≡ failures_of output.old) }
+    ensures failed { IfErr result (λ fault. fault ≡ WriteFault → HasFailed (failures_of output.old) (failures_of output.new)) }
+    ensures fault { IfErr result (λ fault. fault ≢ ReadFault) }
+{
+    let answer = moved_answer(alloc, follow, removal, insertion)?;
+    write(output, &answer)
+}
+
 fn made_answer(alloc: Global, follow: bool, made: &Follow) -> Result<Vec<u8>, NoMemory>
     ensures { IfOk result (λ answer. answer.items ≡ made_answer follow made.now) }
 {
     let mut answer = number_line(alloc, b"ok", u128::from(made.status))?;
-    if !follow {
-        return Ok(answer);
+    if follow {
+        add_changes(&mut answer, made)?;
     }
-    add_splice(&mut answer, b"out", &made.out)?;
-    add_splice(&mut answer, b"err", &made.err)?;
     Ok(answer)
+}
+
+fn moved_answer(
+    alloc: Global,
+    follow: bool,
+    removal: &Follow,
+    insertion: &Follow,
+) -> Result<Vec<u8>, NoMemory>
+    ensures { IfOk result (λ answer. answer.items ≡ moved_answer follow removal.now insertion.now) }
+{
+    let mut answer = number_line(alloc, b"ok", u128::from(insertion.status))?;
+    if follow {
+        add_changes(&mut answer, removal)?;
+        add_changes(&mut answer, insertion)?;
+    }
+    Ok(answer)
+}
+
+fn add_changes(answer: &mut Vec<u8>, made: &Follow) -> Result<(), NoMemory>
+    ensures { OnOk result (answer.new.items ≡ answer.old.items ++ changes made.now) }
+{
+    add_splice(answer, b"out", &made.out)?;
+    add_splice(answer, b"err", &made.err)?;
+    Ok(())
 }
 
 fn add_splice(answer: &mut Vec<u8>, word: &[u8], splice: &Splice) -> Result<(), NoMemory>

@@ -1,10 +1,11 @@
 -- A client that keeps the output and the errors of a session by the answers that it reads (`--follow`).
-use Rattle.std.specs.Prelude.{◌≡◌, ◌==◌, ◌||◌, ◌<◌, ◌+◌, ◌^◌, ℕ, List, [], ◌∷◌, ◌++◌, codes, drop, length, take, true, if◌then◌else◌}
+use Rattle.std.specs.Prelude.{◌≡◌, ◌==◌, ◌||◌, ◌<◌, ◌+◌, ◌^◌, ℕ, zero, suc, List, [], ◌∷◌, ◌++◌, codes, drop, length, take, true, if◌then◌else◌}
 use Rattle.std.specs.List.{replace_range}
 use Rattle.std.specs.Str.{bytes_eq}
 use Rattle.std.specs.Str.Parse.{digits_value}
-use Rattle.jq_session.specs.States.{Point, State, outcome}
-use Rattle.jq_script.specs.Script.{AreAnswers}
+use Rattle.jq_session.specs.States.{State, outcome}
+use Rattle.jq_script.specs.Requests.{Instruction, request, move, instruction_of}
+use Rattle.jq_script.specs.Script.{AreAnswers, Point}
 
 -- ---- the parts of an answer
 
@@ -38,29 +39,46 @@ pub record Client : Type 0 where
   pub output : List ℕ
   pub errors : List ℕ
 
--- What the client keeps after an answer, by its first word and the bytes after that. After a line `ok S` come a splice of the output
--- and one of the errors, each with a word before it.
-abbrev pub heard_by : (word told : List ℕ) → Client → Client
-heard_by word told c =
-    let out = past 32 (past 10 told) in
-    if bytes_eq word (codes "ok") then record { output = changed out c.output; errors = changed (past 32 (after_splice out)) c.errors } else c
+-- what the client keeps after a splice of the output and one of the errors, each with a word before it, and the bytes after them
+abbrev pub heard_pair : (told : List ℕ) → Client → Client
+heard_pair told c = let out = past 32 told in record { output = changed out c.output; errors = changed (past 32 (after_splice out)) c.errors }
+
+abbrev pub after_pair : List ℕ → List ℕ
+after_pair told = after_splice (past 32 (after_splice (past 32 told)))
+
+-- How many such pairs come after a line `ok S`: a move is told as its removal and its insertion.
+abbrev pub pairs : Instruction → ℕ
+pairs (request (move k l)) = 2
+pairs _ = 1
+
+abbrev pub heard_pairs : (count : ℕ) → (told : List ℕ) → Client → Client
+heard_pairs zero told c = c
+heard_pairs (suc n) told c = heard_pairs n (after_pair told) (heard_pair told c)
+
+abbrev pub after_pairs : (count : ℕ) → (told : List ℕ) → List ℕ
+after_pairs zero told = told
+after_pairs (suc n) told = after_pairs n (after_pair told)
+
+-- What the client keeps after an answer, by its first word and the bytes after that.
+abbrev pub heard_by : (count : ℕ) → (word told : List ℕ) → Client → Client
+heard_by n word told c = if bytes_eq word (codes "ok") then heard_pairs n (past 10 told) c else c
 
 -- the bytes after the answer
-abbrev pub unheard_by : (word told : List ℕ) → List ℕ
-unheard_by word told =
-    if bytes_eq word (codes "ok") then after_splice (past 32 (after_splice (past 32 (past 10 told))))
+abbrev pub unheard_by : (count : ℕ) → (word told : List ℕ) → List ℕ
+unheard_by n word told =
+    if bytes_eq word (codes "ok") then after_pairs n (past 10 told)
     else (if bytes_eq word (codes "out") || bytes_eq word (codes "err") then drop (number 10 told) (past 10 told) else past 10 told)
 
-abbrev pub heard : List ℕ → Client → Client
-heard answers c = heard_by (up_to 32 answers) (past 32 answers) c
+abbrev pub heard : (count : ℕ) → List ℕ → Client → Client
+heard n answers c = heard_by n (up_to 32 answers) (past 32 answers) c
 
-abbrev pub unheard : List ℕ → List ℕ
-unheard answers = unheard_by (up_to 32 answers) (past 32 answers)
+abbrev pub unheard : (count : ℕ) → List ℕ → List ℕ
+unheard n answers = unheard_by n (up_to 32 answers) (past 32 answers)
 
 -- one answer for each line
 abbrev pub hears : (lines : List (List ℕ)) → (answers : List ℕ) → Client → Client
 hears [] answers c = c
-hears (line ∷ lines) answers c = hears lines (unheard answers) (heard answers c)
+hears (line ∷ lines) answers c = let n = pairs (instruction_of line) in hears lines (unheard n answers) (heard n answers c)
 
 -- the output and the errors of runs from scratch
 abbrev pub client_at : State → Client

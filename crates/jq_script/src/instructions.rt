@@ -1,0 +1,86 @@
+// The instruction of a line is carried out.
+ghost use Rattle.std.specs.Prelude.{◌≡◌, IfErr, IfOk, OnErr, OnOk};
+ghost use Rattle.std.specs.Str.{chars};
+ghost use Rattle.jq_stream.specs.Filters.{IsFilterOf};
+ghost use Rattle.jq_syntax.specs.Chosen.{chosen, setting, variables_of};
+ghost use Rattle.jq_syntax.specs.Compiled.{IsRefusal};
+ghost use Rattle.jq_script.specs.Serving.{point_of};
+ghost use Rattle.jq_script.specs.private.Reading.{instruction_in};
+ghost use Rattle.jq_script.specs.private.Replies.{IsFilterReplied, IsCarriedOut, filter_reply};
+
+use crate::replies::{Refused, Reply, reply_to};
+use crate::requests::Instruction;
+use crate::host::Host;
+use jq_session::Follow;
+use jq_stream::Filter;
+use jq_syntax::{CompileFault, Options};
+use jv_data::{NoMemory, Val};
+use std::alloc::Global;
+
+/// Carries out the instruction of a line. If it is refused, the session is unchanged.
+pub(crate) fn carry_out(alloc: Global, instruction: Instruction<'_>, host: &mut Host) -> Reply
+    ensures reply { IsCarriedOut (instruction_in instruction.entry) (point_of host.old) (point_of host.new) result }
+    ensures options { (point_of host.new).options ≡ (point_of host.old).options }
+{
+    match instruction {
+        Instruction::Request(request) => reply_to(alloc, request, &mut host.session),
+        Instruction::Filter(text) => refilter(alloc, text, host),
+    }
+}
+
+// Compiles another filter under the session's options, and runs it over the present inputs.
+fn refilter(alloc: Global, text: &[u8], host: &mut Host) -> Reply
+    ensures reply { IsFilterReplied text.now (point_of host.old) (point_of host.new) result }
+    ensures options { (point_of host.new).options ≡ (point_of host.old).options }
+{
+    let text = match str::from_utf8(text) {
+        Ok(text) => text,
+        Err(fault) => return Reply::Refused(Refused::Filter(CompileFault::Lex { at: fault.valid_up_to() })),
+    };
+    match compile(alloc, text, host.session.options()) {
+        Ok(filter) => taken(host.refilter(filter)),
+        Err(fault) => Reply::Refused(Refused::Filter(fault)),
+    }
+}
+
+// The reply for another filter that was run.
+fn taken(refiltered: Result<Follow, NoMemory>) -> Reply
+    ensures { result ≡ filter_reply refiltered }
+{
+    match refiltered {
+        Ok(follow) => Reply::Made(follow),
+        Err(NoMemory) => Reply::Refused(Refused::NoMemory),
+    }
+}
+
+fn compile(alloc: Global, text: &str, options: &Options) -> Result<Filter, CompileFault>
+    ensures accepted { IfOk result (IsFilterOf (chosen options.now) (chars text.now)) }
+    ensures refused { IfErr result (IsRefusal (chars text.now) (setting (chosen options.now))) }
+{
+    let options = copied(alloc, options)?;
+    Filter::compile(alloc, text, options)
+}
+
+// Equal options. The values of their variables are shared.
+fn copied(alloc: Global, options: &Options) -> Result<Options, NoMemory>
+    ensures { IfOk result (λ copy. chosen copy ≡ chosen options.now) }
+{
+    Ok(Options {
+        null: options.null,
+        slurp: options.slurp,
+        exit: options.exit,
+        style: options.style,
+        depth: options.depth,
+        vars: copied_variables(alloc, &options.vars)?,
+    })
+}
+
+fn copied_variables(alloc: Global, variables: &[(String, Val)]) -> Result<Vec<(String, Val)>, NoMemory>
+    ensures { IfOk result (λ copies. variables_of copies.items ≡ variables_of variables.now) }
+{
+    let mut copies = Vec::with_capacity(alloc, variables.len())?;
+    for (name, value) in variables {
+        copies.push((String::from_str(alloc, name.as_str())?, value.copy()?))?;
+    }
+    Ok(copies)
+}
