@@ -9,11 +9,11 @@ use Rattle.jq_starts.specs.Starts.{starts_in}
 use Rattle.jq_stream.specs.Filters.{filter_job, filter_mode}
 use Rattle.jq_syntax.specs.Chosen.{Chosen, chosen}
 use Rattle.jq_session.specs.States.{State, Point, point, state_in, whole}
+use Rattle.jq_session.specs.declared.kept.Kept.{Kept}
+use Rattle.jq_session.specs.declared.kept.Kept.TheVariants as kept
 use Rattle.jq_session.specs.declared.paged.PagedSession.{PagedSession}
 use Rattle.jq_session.specs.declared.refusals.Refusal.{Refusal}
 use Rattle.jq_session.specs.declared.refusals.Refusal.TheVariants as refusal
-use Rattle.jq_session.specs.declared.sessions.Kept.{Kept}
-use Rattle.jq_session.specs.declared.sessions.Kept.TheVariants as kept
 use Rattle.jq_session.specs.declared.sessions.Session.{Session}
 use Rattle.jq_session.specs.declared.whole.WholeSession.{WholeSession}
 

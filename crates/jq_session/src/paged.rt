@@ -3,16 +3,17 @@ ghost use Rattle.std.specs.Prelude.{◌≡◌};
 ghost use Rattle.jq_pages.specs.Contents.{folded_of};
 ghost use Rattle.jq_session.specs.private.Kept.{Serves};
 
+use crate::listing::add_copies;
 use crate::refusals::{Refusal, refusal_of};
 use crate::splices::Follow;
 use crate::statuses::status_of;
-use crate::writing::{Part, write_pieces};
+use crate::writing::{Part, bytes_in, write_pieces};
 use jq_devices::{Watched, Write};
 use jq_pages::{
     Edited, NotStarted as PagesNotStarted, Pages, Steps, totals_count_bytes_and_failures,
 };
 use jq_stream::Filter;
-use jv_data::Val;
+use jv_data::{NoMemory, Val};
 use std::alloc::Global;
 use std::rc::Rc;
 
@@ -33,10 +34,10 @@ impl<S: Steps> PagedSession<S> {
     ghost use Rattle.jq_pages.specs.Contents.{starts_of};
     ghost use Rattle.jq_pages.specs.Edits.{insert, most_inputs, remove, replace};
     ghost use Rattle.jq_pages.specs.Refusals.{IsStartRefusal};
-    ghost use Rattle.jq_session.specs.Sessions.{IsRefusal, paged_state};
-    ghost use Rattle.jq_session.specs.Splices.{Follows};
-    ghost use Rattle.jq_session.specs.Starts.{IsFirstRun, IsStarted};
-    ghost use Rattle.jq_session.specs.States.{after, outcome, state_in};
+    ghost use Rattle.jq_session.specs.Sessions.{IsMoveRefusal, IsRefusal, paged_state};
+    ghost use Rattle.jq_session.specs.Splices.{Follows, FollowsMove};
+    ghost use Rattle.jq_session.specs.Starts.{IsFirstRun, IsMoveStarted, IsStarted};
+    ghost use Rattle.jq_session.specs.States.{after, after_move, outcome, state_in};
 
     /// Runs these steps over the inputs.
     pub(crate) fn start(
@@ -102,6 +103,30 @@ impl<S: Steps> PagedSession<S> {
         }
     }
 
+    pub(crate) fn shift(&mut self, k: u64, l: u64) -> Result<(Follow, Follow), Refusal>
+        ensures moved { OnOk result (after_move k l (paged_state self.old) ≡ Ok (paged_state self.new)) }
+        ensures follow { IfOk result (λ r. FollowsMove r.0 r.1 k l (paged_state self.old) (paged_state self.new)) }
+        ensures refused { IfErr result (λ refusal. IsMoveRefusal refusal (after_move k l (paged_state self.old))) }
+        ensures unchanged { OnErr result (paged_state self.new ≡ paged_state self.old) }
+        ensures runs { IfOk result (λ r. starts_of self.new.pages ≡ starts_of self.old.pages + (r.0.runs + r.1.runs)) }
+        ensures started { IsMoveStarted k l (paged_state self.old) (starts_of self.old.pages) (starts_of self.new.pages) }
+    {
+        let before = self.starts();
+        match self.pages.shift(k, l) {
+            Ok(moved) => {
+                let first = Follow {
+                    out: moved.removal.out,
+                    err: moved.removal.err,
+                    status: status_of(self.filter.settings().exit, moved.between),
+                    runs: moved.starts - before,
+                };
+                let second = self.followed(moved.insertion, moved.starts);
+                Ok((first, second))
+            }
+            Err(refusal) => Err(refusal_of(refusal)),
+        }
+    }
+
     // The answer to an edit, before which the count of starts was this one.
     fn followed(&self, edited: Edited, before: u64) -> Follow
         requires { before ≤ starts_of self.now.pages }
@@ -116,6 +141,35 @@ impl<S: Steps> PagedSession<S> {
             status: self.status(),
             runs: self.starts() - before,
         }
+    }
+
+    /// Copies of the inputs.
+    pub(crate) fn inputs(&self, alloc: Global) -> Result<Vec<Val>, NoMemory>
+        ensures copied { IfOk result (λ inputs. map view inputs.items ≡ (paged_state self.now).inputs) }
+        ensures room { IfOk result (λ inputs. length inputs.items ≤ most_inputs) }
+    {
+        let mut inputs = Vec::with_capacity(alloc, self.len() as usize)?;
+        for j in 0..self.pages.page_count() {
+            add_copies(&mut inputs, self.pages.inputs(j))?;
+        }
+        Ok(inputs)
+    }
+
+    /// The output and the errors.
+    pub(crate) fn written(&self, alloc: Global) -> Result<(Vec<u8>, Vec<u8>), NoMemory>
+        ensures output { IfOk result (λ w. w.0.items ≡ (outcome (paged_state self.now)).output) }
+        ensures errors { IfOk result (λ w. w.1.items ≡ (outcome (paged_state self.now)).errors) }
+    {
+        let output = bytes_in(alloc, &self.pages, Part::Output)?;
+        let errors = bytes_in(alloc, &self.pages, Part::Errors)?;
+        Ok((output, errors))
+    }
+
+    /// Gives the steps back.
+    pub(crate) fn into_steps(self) -> S
+        ensures { S.starts result ≡ starts_of self.pages }
+    {
+        self.pages.into_steps()
     }
 
     /// The count of starts.

@@ -45,6 +45,18 @@ impl Client {
         assert_eq!(rt; self.err.as_slice(), err.as_bytes(), "{named}");
         assert_eq!(rt; self.status, status, "{named}");
     }
+
+    /// The client has the same output, errors and status as another.
+    pub(crate) fn check_same(
+        &self,
+        rt: &(impl Abort + AllocGlobal),
+        named: &str,
+        other: &Client,
+    ) {
+        assert_eq!(rt; self.out.as_slice(), other.out.as_slice(), "{named}");
+        assert_eq!(rt; self.err.as_slice(), other.err.as_slice(), "{named}");
+        assert_eq!(rt; self.status, other.status, "{named}");
+    }
 }
 
 fn spliced(alloc: Global, bytes: &[u8], splice: &Splice) -> Result<Vec<u8>, Fail> {

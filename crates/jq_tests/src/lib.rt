@@ -23,9 +23,15 @@ mod folds;
 #[cfg(test)]
 mod memory;
 #[cfg(test)]
+mod moves;
+#[cfg(test)]
 mod pieces;
 #[cfg(test)]
 mod programs;
+#[cfg(test)]
+mod refilters;
+#[cfg(test)]
+mod session_memory;
 #[cfg(test)]
 mod starting;
 #[cfg(test)]
