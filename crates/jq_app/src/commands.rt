@@ -41,6 +41,7 @@ pub fn run_words<F: Opener, R: Read, O: Write, E: Write>(
     alloc: Global,
     words: Vec<String>,
     starts: Starts,
+    spare: Starts,
     opener: &mut Watched<F>,
     input: &mut Watched<R>,
     output: &mut Watched<O>,
@@ -55,13 +56,13 @@ pub fn run_words<F: Opener, R: Read, O: Write, E: Write>(
     let mut errors = errors;
     if asks {
         let mut noted = errors.noting(alloc);
-        let status = run_reported(alloc, words, starts, opener, input, output, &mut noted);
+        let status = run_reported(alloc, words, starts, spare, opener, input, output, &mut noted);
         return Finished {
             status,
             errors: noted.into_noted(),
         };
     }
-    let status = run_reported(alloc, words, starts, opener, input, output, &mut errors);
+    let status = run_reported(alloc, words, starts, spare, opener, input, output, &mut errors);
     Finished { status, errors }
 }
 
@@ -70,6 +71,7 @@ fn run_reported<F: Opener, R: Read, O: Write, E: Write>(
     alloc: Global,
     words: Vec<String>,
     starts: Starts,
+    spare: Starts,
     opener: &mut Watched<F>,
     input: &mut Watched<R>,
     output: &mut Watched<O>,
@@ -81,7 +83,7 @@ fn run_reported<F: Opener, R: Read, O: Write, E: Write>(
 {
     let mut cause = None;
     match run_command(
-        alloc, words, starts, &mut cause, opener, input, output, errors,
+        alloc, words, starts, spare, &mut cause, opener, input, output, errors,
     ) {
         Ok(status) => status,
         Err(fault) => {
@@ -97,6 +99,7 @@ fn run_command<F: Opener, R: Read, O: Write, E: Write>(
     alloc: Global,
     words: Vec<String>,
     starts: Starts,
+    spare: Starts,
     cause: &mut Option<String>,
     opener: &mut Watched<F>,
     input: &mut Watched<R>,
@@ -112,7 +115,7 @@ fn run_command<F: Opener, R: Read, O: Write, E: Write>(
 {
     let note = usage_note(alloc, words.as_slice());
     match config_of(alloc, words) {
-        Ok(config) => run_config(alloc, config, starts, cause, opener, input, output, errors),
+        Ok(config) => run_config(alloc, config, starts, spare, cause, opener, input, output, errors),
         Err(UsageFault::Help) => write_text(HELP_TEXT, output),
         Err(UsageFault::Version) => write_text(VERSION_TEXT, output),
         Err(UsageFault::Usage) => refuse_words(note, errors),

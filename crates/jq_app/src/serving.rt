@@ -32,6 +32,7 @@ pub(crate) fn run_config<F: Opener, R: Read, O: Write, E: Write>(
     alloc: Global,
     config: Config,
     starts: Starts,
+    spare: Starts,
     cause: &mut Option<String>,
     opener: &mut Watched<F>,
     input: &mut Watched<R>,
@@ -61,7 +62,7 @@ pub(crate) fn run_config<F: Opener, R: Read, O: Write, E: Write>(
     let names = files.as_slice();
     if live {
         return run_session(
-            alloc, text, options, follow, starts, cause, opener, names, input, output, errors,
+            alloc, text, options, follow, starts, spare, cause, opener, names, input, output, errors,
         );
     }
     if names.is_empty() {

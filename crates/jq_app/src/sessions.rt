@@ -12,7 +12,7 @@ ghost use Rattle.jq_app.specs.Sessions.{IsAccepted, IsSessionDone, IsSessionStop
 use crate::notes::file_note;
 use crate::refusals::{refuse_filter, refuse_inputs};
 use jq_devices::{FileReader, Opener, Read, StreamFault, Watched, Write};
-use jq_script::serve;
+use jq_script::{Host, copy_options, serve};
 use jq_session::laws::plans_are_by_the_tree;
 use jq_session::{Refusal, Session};
 use jq_starts::Starts;
@@ -28,6 +28,7 @@ pub(crate) fn run_session<F: Opener, R: Read, O: Write, E: Write>(
     options: Options,
     follow: bool,
     starts: Starts,
+    spare: Starts,
     cause: &mut Option<String>,
     opener: &mut Watched<F>,
     names: &[String],
@@ -42,12 +43,13 @@ pub(crate) fn run_session<F: Opener, R: Read, O: Write, E: Write>(
     ensures blamed { IfErr result (λ fault. IsBlamed fault (failures opener.old input.old output.old errors.old) (failures opener.new input.new output.new errors.new)) }
     ensures unread { ¬ (IsAccepted (chosen options) (chars filter.now)) → input.new ≡ input.old }
 {
+    let kept = copy_options(alloc, &options)?;
     match Filter::compile(alloc, filter, options) {
         Ok(filter) => {
             let reader = FileReader::new(opener.device(), names);
             let mut files = Watched::new(reader);
             let result = serve_filter(
-                alloc, filter, follow, starts, &mut files, input, output, errors,
+                alloc, kept, filter, follow, starts, spare, &mut files, input, output, errors,
             );
             if errors.takes_notes() {
                 *cause = file_note(alloc, &files);
@@ -63,9 +65,11 @@ pub(crate) fn run_session<F: Opener, R: Read, O: Write, E: Write>(
 // Serves a session of a filter over the texts of the files.
 fn serve_filter<I: Read, R: Read, O: Write, E: Write>(
     alloc: Global,
+    options: Options,
     filter: Filter,
     follow: bool,
     starts: Starts,
+    spare: Starts,
     files: &mut Watched<I>,
     input: &mut Watched<R>,
     output: &mut Watched<O>,
@@ -82,9 +86,10 @@ fn serve_filter<I: Read, R: Read, O: Write, E: Write>(
         return report_fault(alloc, fault, errors);
     }
     plans_are_by_the_tree();
-    match Session::start(alloc, starts, filter, values) {
-        Ok(mut session) => {
-            serve(alloc, follow, &mut session, input, output)?;
+    match Session::start(alloc, starts, options, filter, values) {
+        Ok(session) => {
+            let mut host = Host::new(session, spare);
+            serve(alloc, follow, &mut host, input, output)?;
             Ok(0)
         }
         Err(refused) => match refused.refusal {

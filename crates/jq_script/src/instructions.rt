@@ -1,8 +1,8 @@
 // The instruction of a line is carried out.
-ghost use Rattle.std.specs.Prelude.{◌≡◌, IfErr, IfOk, OnErr, OnOk};
+ghost use Rattle.std.specs.Prelude.{◌≡◌, IfErr, IfOk};
 ghost use Rattle.std.specs.Str.{chars};
 ghost use Rattle.jq_stream.specs.Filters.{IsFilterOf};
-ghost use Rattle.jq_syntax.specs.Chosen.{chosen, setting, variables_of};
+ghost use Rattle.jq_syntax.specs.Chosen.{chosen, setting};
 ghost use Rattle.jq_syntax.specs.Compiled.{IsRefusal};
 ghost use Rattle.jq_script.specs.Serving.{point_of};
 ghost use Rattle.jq_script.specs.private.Reading.{instruction_in};
@@ -11,10 +11,11 @@ ghost use Rattle.jq_script.specs.private.Replies.{IsFilterReplied, IsCarriedOut,
 use crate::replies::{Refused, Reply, reply_to};
 use crate::requests::Instruction;
 use crate::host::Host;
+use crate::options::copy_options;
 use jq_session::Follow;
 use jq_stream::Filter;
 use jq_syntax::{CompileFault, Options};
-use jv_data::{NoMemory, Val};
+use jv_data::NoMemory;
 use std::alloc::Global;
 
 /// Carries out the instruction of a line. If it is refused, the session is unchanged.
@@ -57,30 +58,6 @@ fn compile(alloc: Global, text: &str, options: &Options) -> Result<Filter, Compi
     ensures accepted { IfOk result (IsFilterOf (chosen options.now) (chars text.now)) }
     ensures refused { IfErr result (IsRefusal (chars text.now) (setting (chosen options.now))) }
 {
-    let options = copied(alloc, options)?;
+    let options = copy_options(alloc, options)?;
     Filter::compile(alloc, text, options)
-}
-
-// Equal options. The values of their variables are shared.
-fn copied(alloc: Global, options: &Options) -> Result<Options, NoMemory>
-    ensures { IfOk result (λ copy. chosen copy ≡ chosen options.now) }
-{
-    Ok(Options {
-        null: options.null,
-        slurp: options.slurp,
-        exit: options.exit,
-        style: options.style,
-        depth: options.depth,
-        vars: copied_variables(alloc, &options.vars)?,
-    })
-}
-
-fn copied_variables(alloc: Global, variables: &[(String, Val)]) -> Result<Vec<(String, Val)>, NoMemory>
-    ensures { IfOk result (λ copies. variables_of copies.items ≡ variables_of variables.now) }
-{
-    let mut copies = Vec::with_capacity(alloc, variables.len())?;
-    for (name, value) in variables {
-        copies.push((String::from_str(alloc, name.as_str())?, value.copy()?))?;
-    }
-    Ok(copies)
 }

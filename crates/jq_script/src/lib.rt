@@ -11,6 +11,7 @@ mod host;
 mod instructions;
 pub mod laws;
 mod lines;
+mod options;
 mod parts;
 mod replies;
 mod requests;
@@ -18,4 +19,5 @@ mod serving;
 mod writing;
 
 pub use host::Host;
+pub use options::copy_options;
 pub use serving::serve;

@@ -161,7 +161,7 @@ fn made(edited: Result<Follow, Refusal>) -> Reply
 {
     match edited {
         Ok(follow) => Reply::Made(follow),
-        Err(refusal) => Reply::Refused(refused(refusal)),
+        Err(refusal) => Reply::Refused(refused_for(refusal)),
     }
 }
 
@@ -171,12 +171,12 @@ fn moved(shifted: Result<(Follow, Follow), Refusal>) -> Reply
 {
     match shifted {
         Ok((removal, insertion)) => Reply::Moved(removal, insertion),
-        Err(refusal) => Reply::Refused(refused(refusal)),
+        Err(refusal) => Reply::Refused(refused_for(refusal)),
     }
 }
 
 // An edit and a move write nothing, so there is no refusal because of a write.
-fn refused(refusal: Refusal) -> Refused
+fn refused_for(refusal: Refusal) -> Refused
     ensures { result ≡ refused_as refusal }
 {
     match refusal {

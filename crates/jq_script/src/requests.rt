@@ -133,8 +133,8 @@ fn move_input(rest: &[u8]) -> Request<'_>
 fn two_places(rest: &[u8]) -> Option<(u64, u64)>
     ensures { move_by (around_space rest.now) ≡ moving result }
 {
-    let (from, to) = around(b' ', rest)?;
-    Some((place_of(from)?, place_of(to)?))
+    let (first, second) = around(b' ', rest)?;
+    Some((place_of(first)?, place_of(second)?))
 }
 
 // A number, exactly one space, and a text.

@@ -81,9 +81,10 @@ fn made_answer(alloc: Global, follow: bool, made: &Follow) -> Result<Vec<u8>, No
     ensures { IfOk result (λ answer. answer.items ≡ made_answer follow made.now) }
 {
     let mut answer = number_line(alloc, b"ok", u128::from(made.status))?;
-    if follow {
-        add_changes(&mut answer, made)?;
+    if !follow {
+        return Ok(answer);
     }
+    add_changes(&mut answer, made)?;
     Ok(answer)
 }
 
@@ -96,10 +97,11 @@ fn moved_answer(
     ensures { IfOk result (λ answer. answer.items ≡ moved_answer follow removal.now insertion.now) }
 {
     let mut answer = number_line(alloc, b"ok", u128::from(insertion.status))?;
-    if follow {
-        add_changes(&mut answer, removal)?;
-        add_changes(&mut answer, insertion)?;
+    if !follow {
+        return Ok(answer);
     }
+    add_changes(&mut answer, removal)?;
+    add_changes(&mut answer, insertion)?;
     Ok(answer)
 }
 

@@ -1,9 +1,10 @@
 -- A client that keeps the output and the errors of a session by the answers that it reads (`--follow`).
-use Rattle.std.specs.Prelude.{◌≡◌, ◌==◌, ◌||◌, ◌<◌, ◌+◌, ◌^◌, ℕ, zero, suc, List, [], ◌∷◌, ◌++◌, codes, drop, length, take, true, if◌then◌else◌}
+use Rattle.std.specs.Prelude.{◌≡◌, ◌==◌, ◌||◌, ◌<◌, ◌+◌, ◌^◌, ℕ, zero, suc, List, [], ◌∷◌, ◌++◌, codes, drop, length, take, true, Ok, if◌then◌else◌}
 use Rattle.std.specs.List.{replace_range}
 use Rattle.std.specs.Str.{bytes_eq}
 use Rattle.std.specs.Str.Parse.{digits_value}
-use Rattle.jq_session.specs.States.{State, outcome}
+use Rattle.jq_pages.specs.Edits.{remove}
+use Rattle.jq_session.specs.States.{State, after, outcome}
 use Rattle.jq_script.specs.Requests.{Instruction, request, move, instruction_of}
 use Rattle.jq_script.specs.Script.{AreAnswers, Point}
 
@@ -90,9 +91,14 @@ pub record IsShort (s : State) : Type 0 where
   pub errors : length (outcome s).errors < 10 ^ 64
   pub status : (outcome s).status < 10 ^ 64
 
+-- the same after the removal of any input, with which a move begins
+abbrev pub IsShortWithout : State → Type 0
+IsShortWithout s = (k : ℕ) (t : State) → after (remove k) s ≡ Ok t → IsShort t
+
 -- the same for all states to which the first of these lines lead
 abbrev pub AreShort : (lines : List (List ℕ)) → Point → Type 0
-AreShort lines first = (some others : List (List ℕ)) (answers : List ℕ) (p : Point) → some ++ others ≡ lines → AreAnswers true some first answers p → IsShort p.state
+AreShort lines first =
+    (some others : List (List ℕ)) (answers : List ℕ) (p : Point) → some ++ others ≡ lines → AreAnswers true some first answers p → IsShort p.state × IsShortWithout p.state
 
 -- A client that has the output and the errors of runs from scratch on the first inputs has those of the present inputs after the
 -- answers to any lines.
