@@ -110,7 +110,7 @@ MayLackMemory unknown s = ⊥
 
 -- Such a request may be refused because memory ran out, and then it changes nothing.
 abbrev pub IsTurn : Request → State → Turn → Type 0
-IsTurn request s t = (t ≡ turn request s) ⊎ (MayLackMemory request s × (t ≡ refused s no_memory))
+IsTurn r s t = (t ≡ turn r s) ⊎ (MayLackMemory r s × (t ≡ refused s no_memory))
 
 -- How often a request may start the filter: an edit and a move as often as the session says, and every other request never.
 abbrev pub MayStart : Request → State → (old_starts new_starts : ℕ) → Type 0

@@ -30,6 +30,7 @@ pub(crate) fn carry_out(alloc: Global, instruction: Instruction<'_>, host: &mut 
 }
 
 // Compiles another filter under the session's options, and runs it over the present inputs.
+#[tactic(none)]
 fn refilter(alloc: Global, text: &[u8], host: &mut Host) -> Reply
     ensures reply { IsFilterReplied text.now (point_of host.old) (point_of host.new) result }
     ensures options { (point_of host.new).options ≡ (point_of host.old).options }
