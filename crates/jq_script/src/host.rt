@@ -1,4 +1,6 @@
 // The session that scripts are served from.
+ghost use Rattle.std.specs.Prelude.{IsSome};
+
 use jq_session::{Follow, Session};
 use jq_starts::Starts;
 use jq_stream::Filter;
@@ -34,7 +36,6 @@ impl Host {
 
     /// Runs another filter over the present inputs, and takes it unless memory runs out. The count of the old filter becomes the
     /// spare one.
-    #[tactic(none)]
     pub(crate) fn refilter(&mut self, filter: Filter) -> Result<Follow, NoMemory>
         ensures taken { OnOk result (state_of self.new.session ≡ refiltered filter (state_of self.old.session)) }
         ensures follow { IfOk result (λ follow. FollowsFilter follow (state_of self.old.session) (state_of self.new.session)) }

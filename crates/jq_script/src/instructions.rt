@@ -1,6 +1,6 @@
 // The instruction of a line is carried out.
 ghost use Rattle.std.specs.Prelude.{◌≡◌, IfErr, IfOk};
-ghost use Rattle.std.specs.Str.{chars};
+ghost use Rattle.std.specs.Str.{IsUtf8, chars};
 ghost use Rattle.jq_stream.specs.Filters.{IsFilterOf};
 ghost use Rattle.jq_syntax.specs.Chosen.{chosen, setting};
 ghost use Rattle.jq_syntax.specs.Compiled.{IsRefusal};
@@ -29,16 +29,24 @@ pub(crate) fn carry_out(alloc: Global, instruction: Instruction<'_>, host: &mut 
     }
 }
 
-// Compiles another filter under the session's options, and runs it over the present inputs.
-#[tactic(none)]
-fn refilter(alloc: Global, text: &[u8], host: &mut Host) -> Reply
-    ensures reply { IsFilterReplied text.now (point_of host.old) (point_of host.new) result }
+// Takes another filter, if the bytes are its text.
+fn refilter(alloc: Global, bytes: &[u8], host: &mut Host) -> Reply
+    ensures reply { IsFilterReplied bytes.now (point_of host.old) (point_of host.new) result }
     ensures options { (point_of host.new).options ≡ (point_of host.old).options }
 {
-    let text = match str::from_utf8(text) {
-        Ok(text) => text,
-        Err(fault) => return Reply::Refused(Refused::Filter(CompileFault::Lex { at: fault.valid_up_to() })),
-    };
+    match str::from_utf8(bytes) {
+        Ok(text) => refilter_by(alloc, text, host),
+        Err(fault) => Reply::Refused(Refused::Filter(CompileFault::Lex {
+            at: fault.valid_up_to(),
+        })),
+    }
+}
+
+// Compiles another filter under the session's options, and runs it over the present inputs.
+fn refilter_by(alloc: Global, text: &str, host: &mut Host) -> Reply
+    ensures reply { IsUtf8 text.now → IsFilterReplied text.now (point_of host.old) (point_of host.new) result }
+    ensures options { (point_of host.new).options ≡ (point_of host.old).options }
+{
     match compile(alloc, text, host.session.options()) {
         Ok(filter) => taken(host.refilter(filter)),
         Err(fault) => Reply::Refused(Refused::Filter(fault)),
