@@ -1,3 +1,4 @@
 mod Bytes
 mod Noting
 pub mod shared
+mod Names

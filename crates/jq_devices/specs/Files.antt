@@ -2,15 +2,20 @@
 use Rattle.std.specs.Prelude.{◌≡◌, ℕ, List, [], ◌∷◌, Bool, false, not, map, string_bytes, is_some, Option, None, Some}
 use Rattle.std.specs.Fmt.{option_append}
 use Rattle.jq_devices.specs.declared.reader.FileReader.{FileReader}
+use Rattle.jq_devices.specs.declared.reader.UnnamedFiles.{UnnamedFiles}
 
 -- the bytes of the files with these names, one file after the other, if the bytes of each are known
 abbrev pub contents : (content : List ℕ → Option (List ℕ)) → (names : List (List ℕ)) → Option (List ℕ)
 contents content [] = Some []
 contents content (name ∷ names) = option_append (content name) (contents content names)
 
+-- the opener of files that are not named yet
+abbrev pub opener_of : {O : Type 0} → UnnamedFiles O → O
+opener_of files = files.opener.now
+
 -- the names of the files that a reader has not opened
 abbrev pub unopened : {O F : Type 0} → FileReader O F → List (List ℕ)
-unopened r = map string_bytes r.names.now
+unopened r = map string_bytes r.names.items
 
 -- a file is open
 abbrev pub is_open : {O F : Type 0} → FileReader O F → Bool

@@ -1,6 +1,5 @@
 -- Readers and writers whose failures are counted.
 use Rattle.std.specs.Prelude.{◌≤◌, ◌<◌, ◌⊎◌, ◌^◌, ◌-◌, ℕ}
-use Rattle.jq_devices.specs.declared.watched.FailureCount.{FailureCount}
 use Rattle.jq_devices.specs.declared.watched.Watched.{Watched}
 
 -- the reader or writer
@@ -10,10 +9,6 @@ device_of w = w.device
 -- the number of its calls that failed
 abbrev pub failures_of : {T : Type 0} → Watched T → ℕ
 failures_of w = w.failures
-
--- the number of failed reads of files that are no longer used
-abbrev pub calls_of : {O : Type 0} → FailureCount O → ℕ
-calls_of count = count.calls
 
 -- the number of reads that it still allows
 abbrev pub reads_left : {T : Type 0} → Watched T → ℕ

@@ -21,6 +21,6 @@ pub use devices::{read_buffer, read_fault, write};
 pub use faults::StreamFault;
 pub use notes::Noted;
 pub use opener::{FileSystem, Opener};
-pub use reader::FileReader;
+pub use reader::{FileReader, UnnamedFiles};
 pub use traits::{FromStd, Read, Write};
-pub use watched::{FailureCount, Watched};
+pub use watched::Watched;

@@ -4,10 +4,17 @@ ghost use Rattle.std.specs.Io.{ReadsAtMost};
 ghost use Rattle.std.specs.Io.KnownBytes.{Keeps, ReadConsumes};
 
 use crate::{Opener, Read};
+use std::collections::VecDeque;
 use std::io;
 use std::io::{Error, ErrorKind};
 
-/// The files with these names, one after the other as one stream of bytes.
+/// An opener whose files are not named yet. It gives one reader, and opens nothing.
+#[derive(Drop)]
+pub struct UnnamedFiles<'a, O> {
+    opener: &'a O,
+}
+
+/// The files with some names, one after the other as one stream of bytes.
 ///
 /// A file is opened when a read reaches it, and closed at its end; at most one is open. A file that cannot be opened is an
 /// error of the read that reaches it. After an error of an opening or of a read, every later read is an error too, and no
@@ -16,58 +23,76 @@ use std::io::{Error, ErrorKind};
 pub struct FileReader<'a, O: Opener> {
     opener: &'a O,
     // The files that were not opened yet.
-    names: &'a [String],
+    names: VecDeque<String>,
     file: Option<O::File>,
     has_failed: bool,
-    place: Place<'a>,
+    place: Place,
 }
 
 // The file that the bytes of the last read are in.
 #[derive(Drop)]
-struct Place<'a> {
+struct Place {
     // The file that was opened last.
-    opened: Option<&'a str>,
+    opened: Option<String>,
     // Nothing was read from it.
     is_new: bool,
+    // The file before it from which bytes were read last.
+    earlier: Option<String>,
     // The byte that was read last may be the last one of a number or of a word, which the next byte ends.
     may_be_open: bool,
-    // The file that the last bytes are in, if every text that they end is known to end in it.
-    file: Option<&'a str>,
+    // Every text that the last bytes end is known to end in their file.
+    is_known: bool,
 }
 
-impl<'a, O: Opener> FileReader<'a, O> {
-    ghost use Rattle.jq_devices.specs.Files.{bytes_left, contents, has_failed, is_open, unopened};
+impl<'a, O> UnnamedFiles<'a, O> {
+    ghost use Rattle.jq_devices.specs.Files.{opener_of};
 
-    /// Opens no file yet.
-    pub fn new(opener: &'a O, names: &'a [String]) -> FileReader<'a, O>
-        ensures whole { bytes_left O.content O.File.remaining result ≡ contents (O.content opener.now) (map string_bytes names.now) }
-        ensures unopened { unopened result ≡ map string_bytes names.now }
+    /// The files that this opener can open.
+    pub fn new(opener: &'a O) -> UnnamedFiles<'a, O>
+        ensures { opener_of result ≡ opener.now }
+    {
+        UnnamedFiles { opener }
+    }
+}
+
+impl<'a, O: Opener> UnnamedFiles<'a, O> {
+    ghost use Rattle.jq_devices.specs.Files.{bytes_left, contents, has_failed, is_open, opener_of, unopened};
+
+    /// The files with these names. Opens no file yet.
+    pub fn named(self, names: Vec<String>) -> FileReader<'a, O>
+        ensures whole { bytes_left O.content O.File.remaining result ≡ contents (O.content (opener_of self.entry)) (map string_bytes names.items) }
+        ensures unopened { unopened result ≡ map string_bytes names.items }
         ensures closed { is_open result ≡ false }
         ensures sound { has_failed result ≡ false }
     {
         FileReader {
-            opener,
-            names,
+            opener: self.opener,
+            names: VecDeque::from(names),
             file: None,
             has_failed: false,
             place: Place {
                 opened: None,
                 is_new: false,
+                earlier: None,
                 may_be_open: false,
-                file: None,
+                is_known: false,
             },
         }
     }
+}
+
+impl<O: Opener> FileReader<'_, O> {
+    ghost use Rattle.jq_devices.specs.Files.{is_open, unopened};
 
     /// The name of the file that is read, or of the next one if none is open. After a failure it is the file that failed.
-    pub fn name(&self) -> Option<&'a str>
+    pub fn name(&self) -> Option<&str>
         ensures { IfSome result (λ name. is_open self.now ≡ false → (rest : List (List ℕ)) × (unopened self.now ≡ name.now ∷ rest)) }
     {
         if self.file.is_some() {
-            return self.place.opened;
+            return self.place.opened.as_deref();
         }
-        match self.names.split_first() {
-            Some((name, _)) => Some(name.as_str()),
+        match self.names.front() {
+            Some(name) => Some(name.as_str()),
             None => None,
         }
     }
@@ -112,27 +137,40 @@ impl<O: Opener> Read for FileReader<'_, O> {
     }
 
     fn file(&self) -> Option<&str> {
-        self.place.file
+        self.place.file()
     }
 }
 
-impl<'a> Place<'a> {
+impl Place {
     // A file was opened.
-    fn open(&mut self, name: &'a str) {
-        self.opened = Some(name);
+    fn open(&mut self, name: Option<String>) {
+        if !self.is_new {
+            self.earlier = self.opened.take();
+        }
+        self.opened = name;
         self.is_new = true;
     }
 
     // Bytes of the open file were read, of which this is the last one.
     fn read(&mut self, last: u8) {
-        let is_known = !(self.is_new && self.may_be_open);
-        self.file = if is_known { self.opened } else { None };
+        self.is_known = !(self.is_new && self.may_be_open);
         self.is_new = false;
         self.may_be_open = !matches!(last, b' ' | b'\t' | b'\n' | b'\r' | b'"' | b']' | b'}');
     }
+
+    // The file that the last bytes are in, if every text that they end is known to end in it.
+    fn file(&self) -> Option<&str> {
+        if !self.is_known {
+            None
+        } else if self.is_new {
+            self.earlier.as_deref()
+        } else {
+            self.opened.as_deref()
+        }
+    }
 }
 
-impl<'a, O: Opener> FileReader<'a, O> {
+impl<O: Opener> FileReader<'_, O> {
     ghost use Rattle.jq_devices.specs.Files.{a_part_failed, bytes_left, has_failed, is_open, unopened};
     ghost use Rattle.jq_devices.specs.private.Reads.{Gives, IsNext};
 
@@ -187,12 +225,11 @@ impl<'a, O: Opener> FileReader<'a, O> {
         ensures failed { has_failed self.new ≡ has_failed self.old }
         ensures blamed { OnErr result (a_part_failed O.can_open O.File.has_failed self.new ≡ true) }
     {
-        let Some((name, names)) = self.names.split_first() else {
+        let Some(name) = self.names.front() else {
             return Ok(false);
         };
         self.file = Some(self.opener.open(name)?);
-        self.names = names;
-        self.place.open(name);
+        self.place.open(self.names.pop_front());
         Ok(true)
     }
 }

@@ -1,13 +1,12 @@
 // Readers and writers whose failures are counted.
-ghost use Rattle.std.specs.Prelude.{◌≡◌, ◌⊎◌, ◌≤◌, ◌<◌, ◌+◌, ◌-◌, ◌^◌, true, min, length, OnOk, OnErr, IfOk};
+ghost use Rattle.std.specs.Prelude.{◌≡◌, ◌⊎◌, ◌≤◌, ◌<◌, ◌+◌, ◌^◌, true, length, OnOk, OnErr, IfOk};
 ghost use Rattle.std.specs.Io.{ReadsAtMost, WritesAtMost};
 ghost use Rattle.std.specs.Io.KnownBytes.{Keeps, ReadConsumes, WriteAppends};
 
-use crate::{FileReader, Noted, Opener, Read, Write};
+use crate::{Noted, Read, Write};
 use std::alloc::Global;
 use std::io;
 use std::io::{Error, ErrorKind};
-use std::marker::PhantomData;
 
 /// More reads than any input needs: at a million per second they last for twelve days. In pieces of 65,536 bytes (`read_buffer`)
 /// they are 2^56 bytes, so counts of bytes fit 64 bits.
@@ -25,13 +24,6 @@ pub struct Watched<T> {
     // The error of the call that failed last.
     error: Option<Error>,
     ghost few: { reads_left ≤ 2 ^ 40 },
-}
-
-/// The number of failed reads of the files that an opener of this type opened.
-#[derive(Drop)]
-pub struct FailureCount<O> {
-    calls: u64,
-    opener: PhantomData<O>,
 }
 
 impl<T> Watched<T> {
@@ -86,44 +78,6 @@ impl<T> Watched<T> {
     {
         self.failures = self.failures.saturating_add(1);
         self.error = error;
-    }
-}
-
-impl<O: Opener> Watched<FileReader<'_, O>> {
-    ghost use Rattle.jq_devices.specs.Watched.{calls_of, failures_of};
-
-    /// The number of failed reads of files that are no longer used.
-    pub fn into_failures(self) -> FailureCount<O>
-        ensures { calls_of result ≡ failures_of self.entry }
-    {
-        let Watched {
-            device: _files,
-            reads_left: _reads_left,
-            failures: calls,
-            error: _error,
-        } = self;
-        FailureCount {
-            calls,
-            opener: PhantomData,
-        }
-    }
-}
-
-impl<O: Opener> Watched<O> {
-    ghost use Rattle.jq_devices.specs.Watched.{HasFailed, calls_of, device_of, failures_of, reads_left};
-
-    /// Counts the failed reads of files that this opener opened as its own.
-    pub fn add_failures(&mut self, files: FailureCount<O>)
-        ensures device { device_of self.new ≡ device_of self.old }
-        ensures reads { reads_left self.new ≡ reads_left self.old }
-        ensures failures { failures_of self.new ≡ min (failures_of self.old + calls_of files) (2 ^ 64 - 1) }
-        ensures failed { 0 < calls_of files → HasFailed (failures_of self.old) (failures_of self.new) }
-    {
-        let FailureCount {
-            calls,
-            opener: _opener,
-        } = files;
-        self.failures = self.failures.saturating_add(calls);
     }
 }
 
