@@ -1,7 +1,7 @@
 -- The faults of the command's parts, and the failures of their devices.
-use Rattle.std.proofs.Common.{◌≡◌, ◌≢◌, ◌≤◌, ◌<◌, ℕ, List, Option, inl, inr, refl, arith, Result, IfErr}
+use Rattle.std.proofs.Common.{◌≡◌, ◌≢◌, ◌≤◌, ◌<◌, ℕ, List, Option, inl, inr, refl, sym, subst, arith, Result, IfErr}
 use Rattle.jv_meaning.proofs.shared.Results.{if_err_both, if_err_map}
-use Rattle.jq_devices.proofs.shared.Failures.{failed_more}
+use Rattle.jq_devices.proofs.shared.Failures.{failed_after, failed_more}
 use Rattle.jq_devices.specs.Watched.{HasFailed}
 use Rattle.jq_devices.specs.declared.faults.StreamFault.{StreamFault}
 use Rattle.jq_devices.specs.declared.faults.StreamFault.TheVariants.{Read, Write, NoMemory}
@@ -11,7 +11,7 @@ use Rattle.jq_app.specs.Blaming.{Failures, IsBlamed, IsWritten, IsWrittenUnlessF
 -- ---- one device
 
 -- it failed, and its failures are counted
-pub some_failed : (a b count : ℕ) → count ≡ b → HasFailed a b → 0 < count
+some_failed : (a b count : ℕ) → count ≡ b → HasFailed a b → 0 < count
 some_failed a b count same failed = elim failed [
   | inl rose ↦ omega (arith, same, rose)
   | inr most ↦ omega (arith, same, most)
@@ -39,7 +39,7 @@ pub read_by_files : (f : StreamFault) (a b : Failures) → f ≢ Write → (f �
 read_by_files f a b other read = by_files f a b read (λ is. absurd (other is))
 
 -- of a session's script
-pub by_script : (f : StreamFault) (a b : Failures) → (f ≡ Read → HasFailed a.input b.input) → (f ≡ Write → HasFailed a.outputs.output b.outputs.output) → IsBlamed f a b
+by_script : (f : StreamFault) (a b : Failures) → (f ≡ Read → HasFailed a.input b.input) → (f ≡ Write → HasFailed a.outputs.output b.outputs.output) → IsBlamed f a b
 by_script f a b read write = by_input f a b read (λ is. inl (write is))
 
 -- the report of a fault comes after it
@@ -71,18 +71,32 @@ pub blamed_by_print : {A : Type 0} (r : Result A StreamFault) (a b : Failures) �
     → IfErr r (λ f. IsBlamed f a b)
 blamed_by_print r a b other failed = if_err_both r other failed (λ f other failed. by_input f a b (λ is. absurd (other is)) (λ is. inl (failed is)))
 
--- the failures of the files are those of another count
-files_blamed : (f : StreamFault) (n m a d : ℕ) (input output errors input_new output_new errors_new : ℕ) → (HasFailed n m → HasFailed a d)
-    → IsBlamed f (counts n input output errors) (counts m input_new output_new errors_new) → IsBlamed f (counts a input output errors) (counts d input_new output_new errors_new)
-files_blamed Read n m a d input output errors input_new output_new errors_new more blamed = elim blamed [ inl files ↦ inl (more files) | inr script ↦ inr script ]
-files_blamed Write n m a d input output errors input_new output_new errors_new more blamed = blamed
-files_blamed NoMemory n m a d input output errors input_new output_new errors_new more blamed = tt
+-- a count that began at zero
+pub failed_from : {A : Type 0} (r : Result A StreamFault) (first old new : ℕ) → old ≡ first → IfErr r (λ f. f ≡ Read → HasFailed old new) → IfErr r (λ f. f ≡ Read → HasFailed first new)
+failed_from r first old new same failed = if_err_map r failed (λ f failed is. failed_after first old new same (failed is))
 
-pub blamed_by_part : {A : Type 0} (r : Result A StreamFault) (n m a d : ℕ) (input output errors input_new output_new errors_new : ℕ) → (HasFailed n m → HasFailed a d)
-    → IfErr r (λ f. IsBlamed f (counts n input output errors) (counts m input_new output_new errors_new))
-    → IfErr r (λ f. IsBlamed f (counts a input output errors) (counts d input_new output_new errors_new))
-blamed_by_part r n m a d input output errors input_new output_new errors_new more blamed =
-    if_err_map r blamed (λ f blamed. files_blamed f n m a d input output errors input_new output_new errors_new more blamed)
+pub blamed_from : {A : Type 0} (r : Result A StreamFault) (first old input output errors : ℕ) (b : Failures) → old ≡ first → IfErr r (λ f. IsBlamed f (counts old input output errors) b)
+    → IfErr r (λ f. IsBlamed f (counts first input output errors) b)
+blamed_from r first old input output errors b same blamed = subst (λ n. IfErr r (λ f. IsBlamed f (counts n input output errors) b)) same blamed
+
+-- ---- whatever the count of the files is
+
+pub any_by_report : {A : Type 0} (r : Result A StreamFault) (input output errors errors_new : ℕ) → IfErr r (λ f. f ≢ Read) → IfErr r (λ f. f ≡ Write → HasFailed errors errors_new)
+    → IfErr r (λ f. (files : ℕ) → IsBlamed f (counts files input output errors) (counts files input output errors_new))
+any_by_report r input output errors errors_new other failed =
+    if_err_both r other failed (λ f other failed files. by_input f (counts files input output errors) (counts files input output errors_new) (λ is. absurd (other is)) (λ is. inr (failed is)))
+
+pub any_by_script : {A : Type 0} (r : Result A StreamFault) (input output errors input_new output_new : ℕ) → IfErr r (λ f. f ≡ Read → HasFailed input input_new) → IfErr r (λ f. f ≡ Write → HasFailed output output_new)
+    → IfErr r (λ f. (files : ℕ) → IsBlamed f (counts files input output errors) (counts files input_new output_new errors))
+any_by_script r input output errors input_new output_new read write =
+    if_err_both r read write (λ f read write files. by_script f (counts files input output errors) (counts files input_new output_new errors) read write)
+
+-- nothing failed in the files
+pub same_files : {A : Type 0} (r : Result A StreamFault) (old new input output errors input_new output_new errors_new : ℕ) → new ≡ old
+    → IfErr r (λ f. (files : ℕ) → IsBlamed f (counts files input output errors) (counts files input_new output_new errors_new))
+    → IfErr r (λ f. IsBlamed f (counts old input output errors) (counts new input_new output_new errors_new))
+same_files r old new input output errors input_new output_new errors_new same blamed =
+    if_err_map r blamed (λ f blamed. subst (λ n. IsBlamed f (counts old input output errors) (counts n input_new output_new errors_new)) (sym same) (blamed old))
 
 -- ---- lines
 

@@ -5,7 +5,7 @@ use Rattle.clap.specs.Words.{Text}
 use Rattle.jq_devices.specs.Notes.{IsNoted}
 use Rattle.jq_stream.specs.Streams.{streams}
 use Rattle.jq_app.specs.Explained.{IsShown, asks_for_notes, is_explain}
-use Rattle.jq_app.specs.Served.{Content}
+use Rattle.jq_app.specs.Stages.{Files, stage}
 use Rattle.jq_app.specs.Stopped.{CommandResult}
 use Rattle.jq_app.proofs.Blaming.{counts}
 
@@ -21,13 +21,13 @@ pub shown_noted : (asks failed : Bool) (reported shown : Option (List ℕ)) → 
 shown_noted asks failed reported shown is noted = subst (λ b. IsShown b failed reported shown) (sym is) noted
 
 -- the result of a command is the same by the writer and by that within it
-pub noted_result : (content : Content) (words : List Text) (files input output errors files_new input_new output_new errors_new before after : ℕ)
+pub noted_result : (fs : Files) (words : List Text) (files input output errors files_new input_new output_new errors_new before after starts starts_new : ℕ)
     (remaining printed reported remaining_new printed_new reported_new on : Option (List ℕ)) (status : ℕ)
     → before ≡ errors → after ≡ errors_new → on ≡ reported
-    → CommandResult content words (counts files input output before) (counts files_new input_new output_new errors_new) (streams remaining printed on) (streams remaining_new printed_new reported_new) status
-    → CommandResult content words (counts files input output errors) (counts files_new input_new output_new after) (streams remaining printed reported) (streams remaining_new printed_new reported_new) status
-noted_result content words files input output errors files_new input_new output_new errors_new before after remaining printed reported remaining_new printed_new reported_new on status first last same h =
-    let new = streams remaining_new printed_new reported_new in
-    let by_first = subst (λ n. CommandResult content words (counts files input output n) (counts files_new input_new output_new errors_new) (streams remaining printed on) new status) first h in
-    let by_last = subst (λ n. CommandResult content words (counts files input output errors) (counts files_new input_new output_new n) (streams remaining printed on) new status) (sym last) by_first in
-    subst (λ e. CommandResult content words (counts files input output errors) (counts files_new input_new output_new after) (streams remaining printed e) new status) same by_last
+    → CommandResult fs words (counts files input output before) (counts files_new input_new output_new errors_new) (stage (streams remaining printed on) starts) (stage (streams remaining_new printed_new reported_new) starts_new) status
+    → CommandResult fs words (counts files input output errors) (counts files_new input_new output_new after) (stage (streams remaining printed reported) starts) (stage (streams remaining_new printed_new reported_new) starts_new) status
+noted_result fs words files input output errors files_new input_new output_new errors_new before after starts starts_new remaining printed reported remaining_new printed_new reported_new on status first last same h =
+    let new = stage (streams remaining_new printed_new reported_new) starts_new in
+    let by_first = subst (λ n. CommandResult fs words (counts files input output n) (counts files_new input_new output_new errors_new) (stage (streams remaining printed on) starts) new status) first h in
+    let by_last = subst (λ n. CommandResult fs words (counts files input output errors) (counts files_new input_new output_new n) (stage (streams remaining printed on) starts) new status) (sym last) by_first in
+    subst (λ e. CommandResult fs words (counts files input output errors) (counts files_new input_new output_new after) (stage (streams remaining printed e) starts) new status) same by_last

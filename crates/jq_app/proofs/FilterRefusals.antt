@@ -11,7 +11,8 @@ use Rattle.jq_syntax.specs.Reasons.{reason}
 use Rattle.jq_syntax.specs.declared.faults.CompileFault.{CompileFault}
 use Rattle.jq_syntax.specs.declared.faults.CompileFault.TheVariants.{Lex, Syntax, TooManyTokens, TooNested, Undefined, InputsPlace, InputsNeedNull, NoMemory}
 use Rattle.jq_app.specs.Filters.{IsAnswered, IsFilterDone, IsFilterStopped, IsRefusedFilter, refusal, refused}
-use Rattle.jq_app.specs.Sessions.{IsSessionDone, IsSessionStopped}
+use Rattle.jq_app.specs.Sessions.{IsSessionDone, IsSessionStopped, IsUnstarted}
+use Rattle.jq_app.specs.Stages.{Stage}
 use Rattle.jq_app.specs.Stopped.{IsWritingStopped}
 
 abbrev pub filter_refusal : CompileFault → Outcome
@@ -62,16 +63,16 @@ filter_refusal_stopped (Err x) o text f old new is memory h = elim h [
 
 -- ---- in place of a session
 
-pub session_refused : (r : Result ℕ StreamFault) (files : Option (List ℕ)) (follow : Bool) (o : Chosen) (text : List ℕ) (f : CompileFault) (old new : Streams) → old.remaining ≡ new.remaining → IsRefusal text (setting o) f
-    → (f ≡ NoMemory → r ≡ Err fault.NoMemory) → IfOk r (λ answer. IsAnswered (filter_refusal f) old.outputs new.outputs answer) → IfOk r (λ answer. IsSessionDone files follow o text old new answer)
+pub session_refused : (r : Result ℕ StreamFault) (files : Option (List ℕ)) (follow : Bool) (o : Chosen) (text : List ℕ) (f : CompileFault) (old new : Stage) → IsUnstarted old new → IsRefusal text (setting o) f
+    → (f ≡ NoMemory → r ≡ Err fault.NoMemory) → IfOk r (λ answer. IsAnswered (filter_refusal f) old.streams.outputs new.streams.outputs answer) → IfOk r (λ answer. IsSessionDone files follow o text old new answer)
 session_refused (Ok answer) files follow o text f old new unread is memory h =
     inr (unread, filter_refusal f, inl (refused_in (Ok answer) o text f is memory (answer_is_no_fault answer fault.NoMemory (Ok answer) refl)), h)
 session_refused (Err x) files follow o text f old new unread is memory h = tt
 
-pub session_refusal_stopped : (r : Result ℕ StreamFault) (files : Option (List ℕ)) (follow : Bool) (o : Chosen) (text : List ℕ) (f : CompileFault) (old new : Streams) → old.remaining ≡ new.remaining
-    → IsRefusal text (setting o) f → (f ≡ NoMemory → r ≡ Err fault.NoMemory) → IfErr r (λ x. IsWritingStopped x (filter_refusal f) old new) → IfErr r (λ x. IsSessionStopped x files follow o text old new)
+pub session_refusal_stopped : (r : Result ℕ StreamFault) (files : Option (List ℕ)) (follow : Bool) (o : Chosen) (text : List ℕ) (f : CompileFault) (old new : Stage) → IsUnstarted old new
+    → IsRefusal text (setting o) f → (f ≡ NoMemory → r ≡ Err fault.NoMemory) → IfErr r (λ x. IsWritingStopped x (filter_refusal f) old.streams new.streams) → IfErr r (λ x. IsSessionStopped x files follow o text old new)
 session_refusal_stopped (Ok answer) files follow o text f old new unread is memory h = tt
 session_refusal_stopped (Err x) files follow o text f old new unread is memory h = elim h [
-  | inl w ↦ inr (unread, inl (filter_refusal f, inl (refused_in (Err x) o text f is memory (write_is_no_memory x (Err x) refl w.1)), w.0, write_is_no_read x w.1))
-  | inr n ↦ inr (unread, inr (n.0.1, memory_is_no_write x n.1))
+  | inl w ↦ inr (inl (unread, filter_refusal f, inl (refused_in (Err x) o text f is memory (write_is_no_memory x (Err x) refl w.1)), w.0, write_is_no_read x w.1))
+  | inr n ↦ inr (inr (inl (unread, n.0.1, memory_is_no_write x n.1)))
 ]

@@ -26,11 +26,15 @@ use Rattle.jq_stream.specs.Streams.{Streams, streams}
 use Rattle.jq_stream.specs.Texts.{EndsAs}
 use Rattle.jq_pages.specs.Edits.{most_inputs}
 use Rattle.jq_session.specs.Starts.{IsFirstRun}
-use Rattle.jq_session.specs.States.{State, Point, filter_plan, point, state_in}
+use Rattle.jq_session.specs.States.{State, filter_plan, point, state_in}
 use Rattle.jq_session.specs.laws.Plans.{PlansAreByTheTree}
 use Rattle.jq_script.specs.Serving.{Serving, serving}
-use Rattle.jq_app.specs.Sessions.{IsSessionStopped, IsSessionDone, IsUnserved, Serves, if_room, no_start, too_many}
+use Rattle.jq_script.specs.Serving as script
+use Rattle.jq_app.specs.Sessions.{IsSessionStopped, IsSessionDone, IsUnserved, RunsOut, Serves, if_room, no_start, too_many}
+use Rattle.jq_app.specs.Stages.{Stage, stage}
 use Rattle.jq_app.specs.private.Reports.{IsReport}
+use Rattle.jq_app.specs.private.Served.{IsAnswered, IsCutOff}
+use Rattle.jq_app.specs.private.Texts.{HaveTexts}
 use Rattle.jq_app.proofs.FilterRefusals.{memory_is_no_write, write_is_no_read}
 
 -- ---- the texts of the files
@@ -61,29 +65,48 @@ overfull files o p text bytes values h whole e high =
 
 -- ---- the session
 
-pub serves : (files : Option (List ℕ)) (o : Chosen) (text bytes : List ℕ) (values : List Value) (stop : Option Fault) (old new : Streams) (p : Filter) (before begun : ℕ) (first : State) (last : Point)
-    (Served : Serving → Serving → Type 0) → PlansAreByTheTree → IsFilterOf o text p → first ≡ state_in p values → IsFirstRun (state_in p values) before begun → IsWhole bytes files → EndsAs (stream true bytes) values stop
-    → stop ≡ None → length values ≤ most_inputs → old.outputs.errors ≡ new.outputs.errors
-    → Served (serving old.remaining old.outputs.output (point first begun)) (serving new.remaining new.outputs.output last) → Serves files o text old new Served
-serves files o text bytes values stop old new p before begun first last Served plans h is run whole ending none low unreported served =
+-- a session that came to a point with this count of starts
+pub serves : (files : Option (List ℕ)) (o : Chosen) (text : List ℕ) (values : List Value) (stop : Option Fault) (old : Stage) (new : Streams) (p : Filter) (begun : ℕ) (first last : State) (counted : ℕ)
+    (Served : Serving → Serving → Type 0) → PlansAreByTheTree → IsFilterOf o text p → first ≡ state_in p values → IsFirstRun (state_in p values) old.starts begun → HaveTexts files values stop
+    → stop ≡ None → length values ≤ most_inputs → old.streams.outputs.errors ≡ new.outputs.errors
+    → Served (serving old.streams.remaining old.streams.outputs.output (point first begun)) (serving new.remaining new.outputs.output (point last counted)) → Serves files o text old (stage new counted) Served
+serves files o text values stop old new p begun first last counted Served plans h is run texts none low unreported served =
+    let bytes = texts.0 in
     let found = stream true bytes in
-    let e = subst (EndsAs found values) none ending in
+    let e = subst (EndsAs found values) none texts.2 in
     let are : values ≡ found.values = sym (unfaulted_values found values e) in
     let same : first ≡ state_in p found.values = is ∙ ap (state_in p) are in
     record {
       mode = filter_mode p;
       job = filter_job p;
       found = found;
-      opens = record { accepts = h.accepted.accepts; bytes = bytes; whole = whole; texts = refl };
+      opens = record { accepts = h.accepted.accepts; bytes = bytes; whole = texts.1; texts = refl };
       plan = filter_plan p;
       planned = plans o text p h;
       starts = unfaulted_start found values e ∙ room_for values low;
-      before = before;
       begun = begun;
-      first_run = subst (λ vs. IsFirstRun (state_in p vs) before begun) are run;
+      first_run = subst (λ vs. IsFirstRun (state_in p vs) old.starts begun) are run;
       last = last;
-      served = subst (λ s. Served (serving old.remaining old.outputs.output (point s begun)) (serving new.remaining new.outputs.output last)) same served;
+      served = subst (λ s. Served (serving old.streams.remaining old.streams.outputs.output (point s begun)) (serving new.remaining new.outputs.output (point last counted))) same served;
       unreported = unreported;
+    }
+
+-- memory ran out in its first runs
+pub runs_out : (files : Option (List ℕ)) (o : Chosen) (text : List ℕ) (values : List Value) (stop : Option Fault) (p : Filter) (before after : ℕ) → PlansAreByTheTree → IsFilterOf o text p
+    → IsFirstRun (state_in p values) before after → HaveTexts files values stop → stop ≡ None → length values ≤ most_inputs → RunsOut files o text before after
+runs_out files o text values stop p before after plans h run texts none low =
+    let bytes = texts.0 in
+    let found = stream true bytes in
+    let e = subst (EndsAs found values) none texts.2 in
+    record {
+      mode = filter_mode p;
+      job = filter_job p;
+      found = found;
+      opens = record { accepts = h.accepted.accepts; bytes = bytes; whole = texts.1; texts = refl };
+      plan = filter_plan p;
+      planned = plans o text p h;
+      starts = unfaulted_start found values e ∙ room_for values low;
+      first_run = subst (λ vs. IsFirstRun (state_in p vs) before after) (sym (unfaulted_values found values e)) run;
     }
 
 -- ---- the room
@@ -94,51 +117,148 @@ room_in vs h = subst (λ n. n ≤ most_inputs) (sym (length-map vs view)) h
 pub full_in : (r : Refusal) (vs : List Val) → IsStartRefusal r (length vs) → r ≡ refusal.Full → most_inputs < length (map view vs)
 full_in r vs h e = subst (λ n. most_inputs < n) (sym (length-map vs view)) (subst (λ y. IsStartRefusal y (length vs)) e h)
 
--- ---- over the files' bytes, if these are known
+pub low_in : (r : Refusal) (vs : List Val) → IsStartRefusal r (length vs) → r ≢ refusal.Full → length vs ≤ most_inputs
+low_in refusal.NoPlace vs h other = absurd h
+low_in refusal.Full vs h other = absurd (other refl)
+low_in refusal.Write vs h other = absurd h
+low_in refusal.NoMemory vs h other = h
 
-pub done_over : {E : Type 0} (r : Result ℕ E) (files known : Option (List ℕ)) (follow : Bool) (o : Chosen) (p : Filter) (text : List ℕ) (old new : Streams) → files ≡ known → IsFilterOf o text p
-    → IfOk r (λ answer. (c : Chosen) (t : List ℕ) → IsFilterOf c t p → IsSessionDone files follow c t old new answer) → IfOk r (λ answer. IsSessionDone known follow o text old new answer)
-done_over r files known follow o p text old new is h d = if_ok_map r d (λ answer done. subst (λ f. IsSessionDone f follow o text old new answer) is (done o text h))
-
-pub stopped_over : (r : Result ℕ StreamFault) (files known : Option (List ℕ)) (follow : Bool) (o : Chosen) (p : Filter) (text : List ℕ) (old new : Streams) → files ≡ known → IsFilterOf o text p
-    → IfErr r (λ f. (c : Chosen) (t : List ℕ) → IsFilterOf c t p → IsSessionStopped f files follow c t old new) → IfErr r (λ f. IsSessionStopped f known follow o text old new)
-stopped_over r files known follow o p text old new is h d = if_err_map r d (λ f stopped. subst (λ b. IsSessionStopped f b follow o text old new) is (stopped o text h))
-
--- ---- the result of a program's session, by the contents of its files
+-- ---- what the command did
 
 -- a text that can't be read was reported
-pub fault_reported : (r : Result ℕ StreamFault) (files : Option (List ℕ)) (follow : Bool) (p : Filter) (bytes : List ℕ) (values : List Value) (stop : Option Fault) (f : Fault) (remaining output old new : Option (List ℕ))
-    → IsWhole bytes files → EndsAs (stream true bytes) values stop → stop ≡ Some f → IfOk r (λ status. status ≡ 2) → OnOk r (Appends old new (text_line f))
-    → IfOk r (λ answer. (o : Chosen) (text : List ℕ) → IsFilterOf o text p → IsSessionDone files follow o text (streams remaining output old) (streams remaining output new) answer)
-fault_reported (Ok answer) files follow p bytes values stop f remaining output old new whole e is status written = λ o text h.
-    inr (refl, record { output = []; errors = text_line f; status = 2 }, faulted files o p text bytes values f h whole (subst (EndsAs (stream true bytes) values) is e), (record { output = Appends-nil output; errors = written }, status))
-fault_reported (Err x) files follow p bytes values stop f remaining output old new whole e is status written = tt
+pub fault_reported : (r : Result ℕ StreamFault) (p : Filter) (values : List Value) (stop : Option Fault) (f : Fault) (follow : Bool) (remaining output old new : Option (List ℕ)) (starts : ℕ)
+    → stop ≡ Some f → IfOk r (λ status. status ≡ 2) → OnOk r (Appends old new (text_line f))
+    → IfOk r (λ answer. (files : Option (List ℕ)) (o : Chosen) (text : List ℕ) → HaveTexts files values stop → IsFilterOf o text p
+    → IsSessionDone files follow o text (stage (streams remaining output old) starts) (stage (streams remaining output new) starts) answer)
+fault_reported (Ok answer) p values stop f follow remaining output old new starts is status written = λ files o text texts h.
+    inr (
+      (refl, refl),
+      record { output = []; errors = text_line f; status = 2 },
+      faulted files o p text texts.0 values f h texts.1 (subst (EndsAs (stream true texts.0) values) is texts.2),
+      (record { output = Appends-nil output; errors = written }, status),
+    )
+fault_reported (Err x) p values stop f follow remaining output old new starts is status written = tt
 
-pub fault_report_stopped : (r : Result ℕ StreamFault) (files : Option (List ℕ)) (follow : Bool) (p : Filter) (bytes : List ℕ) (values : List Value) (stop : Option Fault) (f : Fault) (remaining output old new : Option (List ℕ))
-    → IsWhole bytes files → EndsAs (stream true bytes) values stop → stop ≡ Some f → OnErr r (AppendsFirst old new (text_line f)) → IfErr r (λ x. x ≢ stream_fault.Read)
-    → IfErr r (λ x. (o : Chosen) (text : List ℕ) → IsFilterOf o text p → IsSessionStopped x files follow o text (streams remaining output old) (streams remaining output new))
-fault_report_stopped (Ok answer) files follow p bytes values stop f remaining output old new whole e is written unread = tt
-fault_report_stopped (Err x) files follow p bytes values stop f remaining output old new whole e is written unread = λ o text h.
-    inr (refl, inl (record { output = []; errors = text_line f; status = 2 }, faulted files o p text bytes values f h whole (subst (EndsAs (stream true bytes) values) is e), record { output = first_nothing output []; errors = written }, unread))
+pub fault_report_stopped : (r : Result ℕ StreamFault) (p : Filter) (values : List Value) (stop : Option Fault) (f : Fault) (follow : Bool) (remaining output old new : Option (List ℕ)) (starts : ℕ)
+    → stop ≡ Some f → OnErr r (AppendsFirst old new (text_line f)) → IfErr r (λ x. x ≢ stream_fault.Read)
+    → IfErr r (λ x. (files : Option (List ℕ)) (o : Chosen) (text : List ℕ) → HaveTexts files values stop → IsFilterOf o text p
+    → IsSessionStopped x files follow o text (stage (streams remaining output old) starts) (stage (streams remaining output new) starts))
+fault_report_stopped (Ok answer) p values stop f follow remaining output old new starts is written unread = tt
+fault_report_stopped (Err x) p values stop f follow remaining output old new starts is written unread = λ files o text texts h.
+    inr (inl (
+      (refl, refl),
+      record { output = []; errors = text_line f; status = 2 },
+      faulted files o p text texts.0 values f h texts.1 (subst (EndsAs (stream true texts.0) values) is texts.2),
+      record { output = first_nothing output []; errors = written },
+      unread,
+    ))
 
--- too many texts were reported
-pub too_many_reported : (r : Result ℕ StreamFault) (files : Option (List ℕ)) (follow : Bool) (p : Filter) (bytes : List ℕ) (values : List Value) (stop : Option Fault) (remaining output old new : Option (List ℕ))
-    → IsWhole bytes files → EndsAs (stream true bytes) values stop → stop ≡ None → most_inputs < length values → IsReport r too_many.errors 2 old new
-    → IfOk r (λ answer. (o : Chosen) (text : List ℕ) → IsFilterOf o text p → IsSessionDone files follow o text (streams remaining output old) (streams remaining output new) answer)
-too_many_reported (Ok answer) files follow p bytes values stop remaining output old new whole e is high report = λ o text h.
-    inr (refl, too_many, overfull files o p text bytes values h whole (subst (EndsAs (stream true bytes) values) is e) high, (record { output = Appends-nil output; errors = report.0 }, report.1))
-too_many_reported (Err x) files follow p bytes values stop remaining output old new whole e is high report = tt
+-- A session did not start: there are too many texts, or memory ran out.
+abbrev pub IsRefusedStart : Refusal → Result ℕ StreamFault → (old new : Option (List ℕ)) → Type 0
+IsRefusedStart f r old new = (f ≡ refusal.Full → IsReport r too_many.errors 2 old new) × (f ≢ refusal.Full → (r ≡ Err stream_fault.NoMemory) × (new ≡ old))
 
-pub full_report_stopped : (r : Result ℕ StreamFault) (files : Option (List ℕ)) (follow : Bool) (p : Filter) (bytes : List ℕ) (values : List Value) (stop : Option Fault) (remaining output old new : Option (List ℕ))
-    → IsWhole bytes files → EndsAs (stream true bytes) values stop → stop ≡ None → most_inputs < length values → IsReport r too_many.errors 2 old new
-    → IfErr r (λ x. (o : Chosen) (text : List ℕ) → IsFilterOf o text p → IsSessionStopped x files follow o text (streams remaining output old) (streams remaining output new))
-full_report_stopped (Ok answer) files follow p bytes values stop remaining output old new whole e is high report = tt
-full_report_stopped (Err x) files follow p bytes values stop remaining output old new whole e is high report = λ o text h.
+-- the count is the same if there are too many
+abbrev pub IsCounted : Filter → List Val → (before after : ℕ) → Type 0
+IsCounted p vs before after = IsFirstRun (state_in p (map view vs)) before after × (most_inputs < length vs → after ≡ before)
+
+full_done : (r : Result ℕ StreamFault) (p : Filter) (values : List Value) (stop : Option Fault) (follow : Bool) (remaining output old new : Option (List ℕ)) (before after : ℕ)
+    → stop ≡ None → most_inputs < length values → after ≡ before → IsReport r too_many.errors 2 old new
+    → IfOk r (λ answer. (files : Option (List ℕ)) (o : Chosen) (text : List ℕ) → HaveTexts files values stop → IsFilterOf o text p
+    → IsSessionDone files follow o text (stage (streams remaining output old) before) (stage (streams remaining output new) after) answer)
+full_done (Ok answer) p values stop follow remaining output old new before after is high same report = λ files o text texts h.
+    inr (
+      (refl, sym same),
+      too_many,
+      overfull files o p text texts.0 values h texts.1 (subst (EndsAs (stream true texts.0) values) is texts.2) high,
+      (record { output = Appends-nil output; errors = report.0 }, report.1),
+    )
+full_done (Err x) p values stop follow remaining output old new before after is high same report = tt
+
+full_stopped : (r : Result ℕ StreamFault) (p : Filter) (values : List Value) (stop : Option Fault) (follow : Bool) (remaining output old new : Option (List ℕ)) (before after : ℕ)
+    → stop ≡ None → most_inputs < length values → after ≡ before → IsReport r too_many.errors 2 old new
+    → IfErr r (λ x. (files : Option (List ℕ)) (o : Chosen) (text : List ℕ) → HaveTexts files values stop → IsFilterOf o text p
+    → IsSessionStopped x files follow o text (stage (streams remaining output old) before) (stage (streams remaining output new) after))
+full_stopped (Ok answer) p values stop follow remaining output old new before after is high same report = tt
+full_stopped (Err x) p values stop follow remaining output old new before after is high same report = λ files o text texts h.
+    let why = overfull files o p text texts.0 values h texts.1 (subst (EndsAs (stream true texts.0) values) is texts.2) high in
     elim report [
-      | inl write ↦ inr (refl, inl (too_many, overfull files o p text bytes values h whole (subst (EndsAs (stream true bytes) values) is e) high, record { output = first_nothing output []; errors = write.1 }, write_is_no_read x write.0))
-      | inr none ↦ inr (refl, inr ((Appends-nil output, none.1), memory_is_no_write x none.0))
+      | inl write ↦ inr (inl ((refl, sym same), too_many, why, record { output = first_nothing output []; errors = write.1 }, write_is_no_read x write.0))
+      | inr none ↦ inr (inr (inl ((refl, sym same), (Appends-nil output, none.1), memory_is_no_write x none.0)))
     ]
 
+memory_done : (r : Result ℕ StreamFault) (P : ℕ → Type 0) → r ≡ Err stream_fault.NoMemory → IfOk r P
+memory_done r P is = subst (λ q. IfOk q P) (sym is) tt
+
+memory_stopped : (r : Result ℕ StreamFault) (p : Filter) (values : List Value) (stop : Option Fault) (follow : Bool) (remaining output old new : Option (List ℕ)) (before after : ℕ)
+    → PlansAreByTheTree → stop ≡ None → length values ≤ most_inputs → IsFirstRun (state_in p values) before after → (r ≡ Err stream_fault.NoMemory) → new ≡ old
+    → IfErr r (λ x. (files : Option (List ℕ)) (o : Chosen) (text : List ℕ) → HaveTexts files values stop → IsFilterOf o text p
+    → IsSessionStopped x files follow o text (stage (streams remaining output old) before) (stage (streams remaining output new) after))
+memory_stopped r p values stop follow remaining output old new before after plans is low run fault same =
+    let kept : Appends old new [] = subst (λ e. Appends old e []) (sym same) (Appends-nil old) in
+    subst (λ q. IfErr q (λ x. (files : Option (List ℕ)) (o : Chosen) (text : List ℕ) → HaveTexts files values stop → IsFilterOf o text p
+        → IsSessionStopped x files follow o text (stage (streams remaining output old) before) (stage (streams remaining output new) after))) (sym fault)
+    (λ files o text texts h. inr (inr (inr (refl, runs_out files o text values stop p before after plans h run texts is low, (Appends-nil output, kept), refl))))
+
+-- what was refused for each reason
+pub start_refused : (f : Refusal) (r : Result ℕ StreamFault) (p : Filter) (vs : List Val) (stop : Option Fault) (follow : Bool) (remaining output old new : Option (List ℕ)) (before after : ℕ)
+    → stop ≡ None → IsStartRefusal f (length vs) → IsCounted p vs before after → IsRefusedStart f r old new
+    → IfOk r (λ answer. (files : Option (List ℕ)) (o : Chosen) (text : List ℕ) → HaveTexts files (map view vs) stop → IsFilterOf o text p
+    → IsSessionDone files follow o text (stage (streams remaining output old) before) (stage (streams remaining output new) after) answer)
+start_refused refusal.Full r p vs stop follow remaining output old new before after is refused count report =
+    full_done r p (map view vs) stop follow remaining output old new before after is (full_in refusal.Full vs refused refl) (count.1 refused) (report.0 refl)
+start_refused refusal.NoPlace r p vs stop follow remaining output old new before after is refused count report = absurd refused
+start_refused refusal.Write r p vs stop follow remaining output old new before after is refused count report = absurd refused
+start_refused refusal.NoMemory r p vs stop follow remaining output old new before after is refused count report = memory_done r _ (report.1 (λ e. cc)).0
+
+pub start_stopped : (f : Refusal) (r : Result ℕ StreamFault) (p : Filter) (vs : List Val) (stop : Option Fault) (follow : Bool) (remaining output old new : Option (List ℕ)) (before after : ℕ)
+    → PlansAreByTheTree → stop ≡ None → IsStartRefusal f (length vs) → IsCounted p vs before after → IsRefusedStart f r old new
+    → IfErr r (λ x. (files : Option (List ℕ)) (o : Chosen) (text : List ℕ) → HaveTexts files (map view vs) stop → IsFilterOf o text p
+    → IsSessionStopped x files follow o text (stage (streams remaining output old) before) (stage (streams remaining output new) after))
+start_stopped refusal.Full r p vs stop follow remaining output old new before after plans is refused count report =
+    full_stopped r p (map view vs) stop follow remaining output old new before after is (full_in refusal.Full vs refused refl) (count.1 refused) (report.0 refl)
+start_stopped refusal.NoPlace r p vs stop follow remaining output old new before after plans is refused count report = absurd refused
+start_stopped refusal.Write r p vs stop follow remaining output old new before after plans is refused count report = absurd refused
+start_stopped refusal.NoMemory r p vs stop follow remaining output old new before after plans is refused count report =
+    let memory = report.1 (λ e. cc) in
+    memory_stopped r p (map view vs) stop follow remaining output old new before after plans is (room_in vs refused) count.0 memory.0 memory.1
+
+-- ---- a session that was served
+
+pub session_served : (r : Result ℕ StreamFault) (p : Filter) (vs : List Val) (stop : Option Fault) (follow : Bool) (remaining output errors remaining_new output_new : Option (List ℕ)) (before begun counted : ℕ) (first : State)
+    → PlansAreByTheTree → stop ≡ None → first ≡ state_in p (map view vs) → length vs ≤ most_inputs → IsFirstRun (state_in p (map view vs)) before begun
+    → IfOk r (λ answer. IsAnswered follow answer (serving remaining output (point first begun)) remaining_new output_new counted)
+    → IfOk r (λ answer. (files : Option (List ℕ)) (o : Chosen) (text : List ℕ) → HaveTexts files (map view vs) stop → IsFilterOf o text p
+    → IsSessionDone files follow o text (stage (streams remaining output errors) before) (stage (streams remaining_new output_new errors) counted) answer)
+session_served r p vs stop follow remaining output errors remaining_new output_new before begun counted first plans is same low run h = if_ok_map r h (λ answer answered files o text texts k. inl (
+    serves files o text (map view vs) stop (stage (streams remaining output errors) before) (streams remaining_new output_new errors) p begun first answered.1 counted (script.IsServed follow) plans k same run texts is (room_in vs low) refl answered.2,
+    answered.0,
+))
+
+pub session_cut_off : (r : Result ℕ StreamFault) (p : Filter) (vs : List Val) (stop : Option Fault) (follow : Bool) (remaining output errors remaining_new output_new : Option (List ℕ)) (before begun counted : ℕ) (first : State)
+    → PlansAreByTheTree → stop ≡ None → first ≡ state_in p (map view vs) → length vs ≤ most_inputs → IsFirstRun (state_in p (map view vs)) before begun
+    → IfErr r (λ f. IsCutOff follow f (serving remaining output (point first begun)) remaining_new output_new counted)
+    → IfErr r (λ f. (files : Option (List ℕ)) (o : Chosen) (text : List ℕ) → HaveTexts files (map view vs) stop → IsFilterOf o text p
+    → IsSessionStopped f files follow o text (stage (streams remaining output errors) before) (stage (streams remaining_new output_new errors) counted))
+session_cut_off r p vs stop follow remaining output errors remaining_new output_new before begun counted first plans is same low run h = if_err_map r h (λ f stopped files o text texts k. inl (
+    serves files o text (map view vs) stop (stage (streams remaining output errors) before) (streams remaining_new output_new errors) p begun first stopped.0 counted
+        (λ a b. script.IsStopped follow f a b × script.IsOnePass follow a b) plans k same run texts is (room_in vs low) refl (stopped.1, stopped.2)
+))
+
+-- ---- the status of a session
+
+pub ok_status : {A : Type 0} (served : Result A StreamFault) (r : Result ℕ StreamFault) (P : Type 0) (Q : ℕ → Type 0) → OnOk served (r ≡ Ok 0) → IfErr served (λ f. r ≡ Err f) → OnOk served P → (P → Q 0) → IfOk r Q
+ok_status (Ok a) r P Q ok err h q = subst (λ x. IfOk x Q) (sym ok) (q h)
+ok_status (Err f) r P Q ok err h q = subst (λ x. IfOk x Q) (sym err) tt
+
+pub err_status : {A : Type 0} (served : Result A StreamFault) (r : Result ℕ StreamFault) (Q : StreamFault → Type 0) → OnOk served (r ≡ Ok 0) → IfErr served (λ f. r ≡ Err f) → IfErr served Q → IfErr r Q
+err_status (Ok a) r Q ok err h = subst (λ x. IfErr x Q) (sym ok) tt
+err_status (Err f) r Q ok err h = subst (λ x. IfErr x Q) (sym err) h
+
+-- a clause on each fault and one on any
+pub on_fault : {A : Type 0} (served : Result A StreamFault) {P : StreamFault → Type 0} {Q : Type 0} → IfErr served P → OnErr served Q → IfErr served (λ f. P f × Q)
+on_fault (Ok a) h k = tt
+on_fault (Err f) h k = (h, k)
+
 -- nothing was written before a fault other than a write fault
-pub stopped_before : (f : StreamFault) (files : Option (List ℕ)) (follow : Bool) (o : Chosen) (text : List ℕ) (s : Streams) → f ≢ stream_fault.Write → IsSessionStopped f files follow o text s s
-stopped_before f files follow o text s unwritten = inr (refl, inr ((Appends-nil s.outputs.output, Appends-nil s.outputs.errors), unwritten))
+pub stopped_before : (f : StreamFault) (files : Option (List ℕ)) (follow : Bool) (o : Chosen) (text : List ℕ) (s : Stage) → f ≢ stream_fault.Write → IsSessionStopped f files follow o text s s
+stopped_before f files follow o text s unwritten = inr (inr (inl ((refl, refl), (Appends-nil s.streams.outputs.output, Appends-nil s.streams.outputs.errors), unwritten)))

@@ -14,6 +14,3 @@ some_of (name ∷ names) h = λ e. cc
 
 pub some_names : (names files : List (String Global)) → names ≡ files → false ≡ eqb (length names) 0 → map string_bytes files ≢ []
 some_names names files is h = subst (λ ns. map string_bytes ns ≢ []) is (some_of names h)
-
-pub same_names : (names files : List (String Global)) → names ≡ files → map string_bytes names ≡ map string_bytes files
-same_names names files is = ap (map string_bytes) is

@@ -14,8 +14,8 @@ pub record Failures : Type 0 where
   pub input : ℕ
   pub outputs : OutputFailures
 
-abbrev pub failures : {F R O E : Type 0} → Watched F → Watched R → Watched O → Watched E → Failures
-failures files input output errors = record { files = failures_of files; input = failures_of input; outputs = output_failures output errors }
+abbrev pub failures : {R O E : Type 0} → (files : ℕ) → Watched R → Watched O → Watched E → Failures
+failures files input output errors = record { files = files; input = failures_of input; outputs = output_failures output errors }
 
 -- A device failed to which the fault belongs. Memory may run out without such a failure.
 abbrev pub IsBlamed : StreamFault → (old new : Failures) → Type 0

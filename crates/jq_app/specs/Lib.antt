@@ -1,3 +1,4 @@
+pub mod Stages
 pub mod Filters
 pub mod Sessions
 pub mod Served

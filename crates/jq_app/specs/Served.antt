@@ -1,5 +1,5 @@
 -- What the command writes for its words and its input, and with which status it ends (manual of jq 1.7, "Invoking jq").
-use Rattle.std.specs.Prelude.{◌≡◌, ◌≢◌, ◌⊎◌, ℕ, List, [], ◌++◌, Option, codes, true, false}
+use Rattle.std.specs.Prelude.{◌≡◌, ◌≢◌, ◌⊎◌, ℕ, List, [], ◌++◌, codes, true, false}
 use Rattle.std.specs.Str.{chars}
 use Rattle.clap.specs.Words.{Text}
 use Rattle.jq_cli.specs.Answers.{Asks, AsksForHelp, AsksForVersion, IsMisused}
@@ -12,24 +12,22 @@ use Rattle.jq_stream.specs.Outcomes.{Outcome}
 use Rattle.jq_stream.specs.Streams.{Streams}
 use Rattle.jq_app.specs.Filters.{FilterNeedsInput, IsAnswered, IsFilterDone, refusal}
 use Rattle.jq_app.specs.Sessions.{IsAccepted, IsSessionDone}
-
--- the bytes of a file by its name, if they are known
-abbrev pub Content : Type 0
-Content = List ℕ → Option (List ℕ)
+use Rattle.jq_app.specs.Stages.{Files, Stage}
 
 -- ---- a configuration
 
 -- If the configuration names files, they are the input, and nothing is read from the standard input.
-abbrev pub HasInput : Content → Configuration → (old new from to : Streams) → Type 0
-HasInput content c old new from to =
+abbrev pub HasInput : Files → Configuration → (old new from to : Streams) → Type 0
+HasInput files c old new from to =
     ((c.files ≡ []) × (from ≡ old) × (to ≡ new))
-    ⊎ ((c.files ≢ []) × (old.remaining ≡ new.remaining) × (from ≡ record { remaining = contents content c.files; outputs = old.outputs }) × (to.outputs ≡ new.outputs))
+    ⊎ ((c.files ≢ []) × (old.remaining ≡ new.remaining) × (from ≡ record { remaining = contents files.content c.files; outputs = old.outputs })
+    × (to ≡ record { remaining = files.left; outputs = new.outputs }))
 
 -- The filter was run over the input, or a session was served, or the filter was refused.
-abbrev pub IsConfigurationDone : Content → Configuration → (old new : Streams) → ℕ → Type 0
-IsConfigurationDone content c old new answer =
-    ((c.live ≡ false) × (from : Streams) × (to : Streams) × HasInput content c old new from to × IsFilterDone c.options (chars c.filter) from to answer)
-    ⊎ ((c.live ≡ true) × IsSessionDone (contents content c.files) c.follow c.options (chars c.filter) old new answer)
+abbrev pub IsConfigurationDone : Files → Configuration → (old new : Stage) → ℕ → Type 0
+IsConfigurationDone files c old new answer =
+    ((c.live ≡ false) × (from : Streams) × (to : Streams) × HasInput files c old.streams new.streams from to × IsFilterDone c.options (chars c.filter) from to answer)
+    ⊎ ((c.live ≡ true) × IsSessionDone (contents files.content c.files) c.follow c.options (chars c.filter) old new answer)
 
 -- The configuration reads the standard input: as inputs, or as the script of a session.
 abbrev pub ReadsInput : Configuration → Type 0
@@ -55,10 +53,11 @@ pub data IsReply (words : List Text) : Outcome → Type 0 where
   misused : IsMisused words → IsReply words usage
   by_clap : (text : List ℕ) → cli.IsRefused words → IsReply words (record { output = []; errors = text; status = 2 })
 
--- The command did what its words ask for, or wrote the reply in place of a run; the answer is the status.
-abbrev pub IsServed : Content → List Text → (old new : Streams) → ℕ → Type 0
-IsServed content words old new answer =
-    ((c : Configuration) × Asks words c × IsConfigurationDone content c old new answer) ⊎ ((outcome : Outcome) × IsReply words outcome × IsAnswered outcome old.outputs new.outputs answer)
+-- The command did what its words ask for, or wrote the reply in place of a run and started nothing; the answer is the status.
+abbrev pub IsServed : Files → List Text → (old new : Stage) → ℕ → Type 0
+IsServed files words old new answer =
+    ((c : Configuration) × Asks words c × IsConfigurationDone files c old new answer)
+    ⊎ ((outcome : Outcome) × IsReply words outcome × IsAnswered outcome old.streams.outputs new.streams.outputs answer × (old.starts ≡ new.starts))
 
 -- The words ask for a configuration that reads the standard input.
 abbrev pub WordsNeedInput : List Text → Type 0

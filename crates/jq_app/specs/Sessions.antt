@@ -9,14 +9,14 @@ use Rattle.jq_devices.specs.declared.faults.StreamFault.TheVariants as stream_fa
 use Rattle.jq_stream.specs.Outcomes.{Mode, Job, Outcome, text_line}
 use Rattle.jq_stream.specs.Stopped.{WritesFirst}
 use Rattle.jq_devices.specs.Reading.{IsWhole}
-use Rattle.jq_stream.specs.Streams.{Streams}
 use Rattle.jq_pages.specs.Edits.{most_inputs}
 use Rattle.jq_session.specs.Starts.{IsFirstRun}
-use Rattle.jq_session.specs.States.{Plan, IsPlanOf, State, Point, point}
+use Rattle.jq_session.specs.States.{Plan, IsPlanOf, State, point}
 use Rattle.jq_script.specs.Serving.{Serving, serving}
 use Rattle.jq_script.specs.Serving as script
 use Rattle.jq_stream.specs.Accepted.{Accepts}
 use Rattle.jq_app.specs.Filters.{IsAnswered, IsRefusedFilter, NothingWritten, refusal}
+use Rattle.jq_app.specs.Stages.{Stage}
 
 -- The filter is accepted.
 abbrev pub IsAccepted : Chosen → List ℕ → Type 0
@@ -56,8 +56,8 @@ abbrev pub first_state : Mode → Job → Plan → List Value → State
 first_state mode job plan inputs = record { mode = mode; job = job; plan = plan; inputs = inputs }
 
 -- A session over the first inputs, whose mode, job and plan are those of the filter, came to another point; the script was read
--- from the standard input, the answers were written to standard output, and nothing was reported.
-pub record Serves (files : Option (List ℕ)) (o : Chosen) (text : List ℕ) (old new : Streams) (Served : Serving → Serving → Type 0) : Type 0 where
+-- from the standard input, the answers were written to standard output, and nothing was reported. The count of starts is the command's.
+pub record Serves (files : Option (List ℕ)) (o : Chosen) (text : List ℕ) (old new : Stage) (Served : Serving → Serving → Type 0) : Type 0 where
   pub mode : Mode
   pub job : Job
   pub found : Values
@@ -65,25 +65,40 @@ pub record Serves (files : Option (List ℕ)) (o : Chosen) (text : List ℕ) (ol
   pub plan : Plan
   pub planned : IsPlanOf o mode opens.accepts.prelude opens.accepts.tree plan
   pub starts : no_start found.values found.end ≡ None
-  pub before : ℕ
   pub begun : ℕ
-  pub first_run : IsFirstRun (first_state mode job plan found.values) before begun
-  pub last : Point
-  pub served : Served (serving old.remaining old.outputs.output (point (first_state mode job plan found.values) begun)) (serving new.remaining new.outputs.output last)
-  pub unreported : old.outputs.errors ≡ new.outputs.errors
+  pub first_run : IsFirstRun (first_state mode job plan found.values) old.starts begun
+  pub last : State
+  pub served : Served (serving old.streams.remaining old.streams.outputs.output (point (first_state mode job plan found.values) begun))
+    (serving new.streams.remaining new.streams.outputs.output (point last new.starts))
+  pub unreported : old.streams.outputs.errors ≡ new.streams.outputs.errors
+
+-- Memory ran out in the first runs, which start the filter no more often than those of a session that is served.
+pub record RunsOut (files : Option (List ℕ)) (o : Chosen) (text : List ℕ) (old_starts new_starts : ℕ) : Type 0 where
+  pub mode : Mode
+  pub job : Job
+  pub found : Values
+  pub opens : Opens files o text mode job found
+  pub plan : Plan
+  pub planned : IsPlanOf o mode opens.accepts.prelude opens.accepts.tree plan
+  pub starts : no_start found.values found.end ≡ None
+  pub first_run : IsFirstRun (first_state mode job plan found.values) old_starts new_starts
+
+-- The script was not read, and the filter was not started.
+abbrev pub IsUnstarted : (old new : Stage) → Type 0
+IsUnstarted old new = (old.streams.remaining ≡ new.streams.remaining) × (old.starts ≡ new.starts)
 
 -- The whole script was answered, with `--follow` or without; or no session started, the script was not read, and the
 -- reason was written. The answer is the status.
-abbrev pub IsSessionDone : (files : Option (List ℕ)) → (follow : Bool) → Chosen → List ℕ → (old new : Streams) → ℕ → Type 0
+abbrev pub IsSessionDone : (files : Option (List ℕ)) → (follow : Bool) → Chosen → List ℕ → (old new : Stage) → ℕ → Type 0
 IsSessionDone files follow o text old new answer =
     (Serves files o text old new (script.IsServed follow) × (answer ≡ 0))
-    ⊎ ((old.remaining ≡ new.remaining) × (outcome : Outcome) × IsUnserved files o text outcome × IsAnswered outcome old.outputs new.outputs answer)
+    ⊎ (IsUnstarted old new × (outcome : Outcome) × IsUnserved files o text outcome × IsAnswered outcome old.streams.outputs new.streams.outputs answer)
 
 -- A fault stopped the session, in which lines are answered in one pass, or the report of why none starts. Or nothing was
 -- written: a file could not be read, or memory ran out.
-abbrev pub IsSessionStopped : StreamFault → (files : Option (List ℕ)) → (follow : Bool) → Chosen → List ℕ → (old new : Streams) → Type 0
+abbrev pub IsSessionStopped : StreamFault → (files : Option (List ℕ)) → (follow : Bool) → Chosen → List ℕ → (old new : Stage) → Type 0
 IsSessionStopped f files follow o text old new =
     Serves files o text old new (λ before after. script.IsStopped follow f before after × script.IsOnePass follow before after)
-    ⊎ ((old.remaining ≡ new.remaining)
-    × (((outcome : Outcome) × IsUnserved files o text outcome × WritesFirst outcome old.outputs new.outputs × (f ≢ stream_fault.Read))
-    ⊎ (NothingWritten old new × (f ≢ stream_fault.Write))))
+    ⊎ (IsUnstarted old new × (outcome : Outcome) × IsUnserved files o text outcome × WritesFirst outcome old.streams.outputs new.streams.outputs × (f ≢ stream_fault.Read))
+    ⊎ (IsUnstarted old new × NothingWritten old.streams new.streams × (f ≢ stream_fault.Write))
+    ⊎ ((old.streams.remaining ≡ new.streams.remaining) × RunsOut files o text old.starts new.starts × NothingWritten old.streams new.streams × (f ≡ stream_fault.NoMemory))

@@ -13,33 +13,35 @@ use Rattle.jq_stream.specs.Stopped.{WritesFirst}
 use Rattle.jq_stream.specs.Streams.{Streams}
 use Rattle.jq_app.specs.Blaming.{Failures, IsBlamed, IsWrittenUnlessFailed}
 use Rattle.jq_app.specs.Filters.{IsFilterStopped, NothingDone}
-use Rattle.jq_app.specs.Served.{Content, HasInput, IsReply, IsServed}
+use Rattle.jq_app.specs.Served.{HasInput, IsReply, IsServed}
 use Rattle.jq_app.specs.Sessions.{IsSessionStopped}
+use Rattle.jq_app.specs.Stages.{Files, Stage}
 
 -- A fault stopped the writing of this outcome: the first bytes of it were written, or memory ran out before. Nothing was read in the second case.
 abbrev pub IsWritingStopped : StreamFault → Outcome → (old new : Streams) → Type 0
 IsWritingStopped f outcome old new = (WritesFirst outcome old.outputs new.outputs × (f ≡ fault.Write)) ⊎ (NothingDone old new × (f ≡ fault.NoMemory))
 
 -- A fault stopped what this configuration asks for.
-abbrev pub IsConfigurationStopped : StreamFault → Content → Configuration → (old new : Streams) → Type 0
-IsConfigurationStopped f content c old new =
-    ((c.live ≡ false) × (from : Streams) × (to : Streams) × HasInput content c old new from to × IsFilterStopped f c.options (chars c.filter) from to)
-    ⊎ ((c.live ≡ true) × IsSessionStopped f (contents content c.files) c.follow c.options (chars c.filter) old new)
+abbrev pub IsConfigurationStopped : StreamFault → Files → Configuration → (old new : Stage) → Type 0
+IsConfigurationStopped f files c old new =
+    ((c.live ≡ false) × (from : Streams) × (to : Streams) × HasInput files c old.streams new.streams from to × IsFilterStopped f c.options (chars c.filter) from to)
+    ⊎ ((c.live ≡ true) × IsSessionStopped f (contents files.content c.files) c.follow c.options (chars c.filter) old new)
 
 -- A fault stopped the command with these words.
-abbrev pub IsStopped : StreamFault → Content → List Text → (old new : Streams) → Type 0
-IsStopped f content words old new =
-    ((c : Configuration) × Asks words c × IsConfigurationStopped f content c old new)
-    ⊎ ((outcome : Outcome) × IsReply words outcome × IsWritingStopped f outcome old new)
-    ⊎ (NothingDone old new × (f ≡ fault.NoMemory))
+abbrev pub IsStopped : StreamFault → Files → List Text → (old new : Stage) → Type 0
+IsStopped f files words old new =
+    ((c : Configuration) × Asks words c × IsConfigurationStopped f files c old new)
+    ⊎ ((outcome : Outcome) × IsReply words outcome × IsWritingStopped f outcome old.streams new.streams × (old.starts ≡ new.starts))
+    ⊎ (NothingDone old.streams new.streams × (f ≡ fault.NoMemory) × (old.starts ≡ new.starts))
 
 -- A device failed to which the fault belongs. After what was written before the fault comes the fault's line, or, if standard
 -- error has failed at some time, the first bytes of the line. The status is 2.
-abbrev pub IsReported : Content → List Text → (before after : Failures) → (old new : Streams) → ℕ → Type 0
-IsReported content words before after old new answer =
-    (f : StreamFault) × IsBlamed f before after × (stopped : Streams) × IsStopped f content words old stopped × (stopped.remaining ≡ new.remaining)
-    × (stopped.outputs.output ≡ new.outputs.output) × IsWrittenUnlessFailed (fault_line f) after.outputs.errors stopped.outputs.errors new.outputs.errors × (answer ≡ 2)
+abbrev pub IsReported : Files → List Text → (before after : Failures) → (old new : Stage) → ℕ → Type 0
+IsReported files words before after old new answer =
+    (f : StreamFault) × IsBlamed f before after × (stopped : Stage) × IsStopped f files words old stopped × (stopped.starts ≡ new.starts)
+    × (stopped.streams.remaining ≡ new.streams.remaining) × (stopped.streams.outputs.output ≡ new.streams.outputs.output)
+    × IsWrittenUnlessFailed (fault_line f) after.outputs.errors stopped.streams.outputs.errors new.streams.outputs.errors × (answer ≡ 2)
 
 -- What the words ask for was done, or a fault was reported.
-pub record CommandResult (content : Content) (words : List Text) (before after : Failures) (old new : Streams) (status : ℕ) : Type 0 where
-  pub outcome : IsServed content words old new status ⊎ IsReported content words before after old new status
+pub record CommandResult (files : Files) (words : List Text) (before after : Failures) (old new : Stage) (status : ℕ) : Type 0 where
+  pub outcome : IsServed files words old new status ⊎ IsReported files words before after old new status

@@ -9,7 +9,7 @@ use crate::builtins::{KNOWN, LEFT_OUT};
 use jq_cli::{UsageFault, take_args};
 use jq_devices::{FileReader, Opener, Read, StreamFault, Watched, Write};
 use jq_resolver::Undefined;
-use jq_syntax::CompileFault;
+use jq_syntax::{CompileFault, SyntaxPlace, place_of_syntax_error};
 use jv_data::NoMemory;
 use std::alloc::Global;
 use std::io::Error;
@@ -88,10 +88,12 @@ fn copies(alloc: Global, words: &[String]) -> Result<Vec<String>, NoMemory> {
     Ok(copies)
 }
 
-/// What is known of the name for which a filter is refused, if notes are taken; nothing if memory runs out.
+/// What is known of the name for which this text of a filter is refused, or of the place of its syntax error, if notes are taken;
+/// nothing if memory runs out.
 pub(crate) fn filter_note(
     alloc: Global,
     takes_notes: bool,
+    text: &str,
     fault: &CompileFault,
 ) -> Option<String> {
     if !takes_notes {
@@ -99,13 +101,22 @@ pub(crate) fn filter_note(
     }
     match fault {
         CompileFault::Undefined(name) => name_note(alloc, name).unwrap_or(None),
+        CompileFault::Syntax => place_note(alloc, text).unwrap_or(None),
         CompileFault::Lex { at: _ }
-        | CompileFault::Syntax
         | CompileFault::TooManyTokens
         | CompileFault::TooNested
         | CompileFault::InputsPlace
         | CompileFault::InputsNeedNull
         | CompileFault::NoMemory => None,
+    }
+}
+
+// Where the grammar refuses a text.
+fn place_note(alloc: Global, text: &str) -> Result<Option<String>, NoMemory> {
+    match place_of_syntax_error(alloc, text)? {
+        Some(SyntaxPlace::At(at)) => Ok(Some(format!(in alloc; "at byte {at} of the filter")?)),
+        Some(SyntaxPlace::AtEnd) => Ok(Some(String::from_str(alloc, "at the end of the filter")?)),
+        None => Ok(None),
     }
 }
 
@@ -154,8 +165,8 @@ fn nearest(alloc: Global, name: &str, end: &str) -> Result<Option<&'static str>,
     Ok(near)
 }
 
-/// The file that could not be read, and the system's reason.
-pub(crate) fn file_note<O: Opener>(
+// The file that could not be read, and the system's reason.
+fn file_note<O: Opener>(
     alloc: Global,
     files: &Watched<FileReader<'_, O>>,
 ) -> Option<String> {
@@ -163,18 +174,18 @@ pub(crate) fn file_note<O: Opener>(
     cause_note(alloc, name, files.error())
 }
 
-/// What failed and the system's reason.
-pub(crate) fn cause_note(alloc: Global, name: &str, error: Option<&Error>) -> Option<String> {
+// What failed and the system's reason.
+fn cause_note(alloc: Global, name: &str, error: Option<&Error>) -> Option<String> {
     let error = error?;
     format!(in alloc; "{name}: {error}").ok()
 }
 
-/// The input or the output that failed, and the system's reason: of a file if there is this note on it.
-pub(crate) fn fault_note<R: Read, O: Write>(
+/// The file, the input or the output that failed, and the system's reason.
+pub(crate) fn fault_note<F: Opener, R: Read, O: Write>(
     alloc: Global,
     takes_notes: bool,
     fault: StreamFault,
-    file: Option<String>,
+    files: &Watched<FileReader<'_, F>>,
     input: &Watched<R>,
     output: &Watched<O>,
 ) -> Option<String> {
@@ -182,7 +193,7 @@ pub(crate) fn fault_note<R: Read, O: Write>(
         return None;
     }
     match fault {
-        StreamFault::Read => match file {
+        StreamFault::Read => match file_note(alloc, files) {
             Some(note) => Some(note),
             None => cause_note(alloc, "standard input", input.error()),
         },

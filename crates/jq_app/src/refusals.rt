@@ -28,9 +28,10 @@ pub(crate) fn write_text<O: Write>(text: &str, output: &mut Watched<O>) -> Resul
     Ok(0)
 }
 
-/// Reports why a filter is refused, and returns the status. If memory ran out, nothing is written.
+/// Reports why this text of a filter is refused, and returns the status. If memory ran out, nothing is written.
 pub(crate) fn refuse_filter<E: Write>(
     alloc: Global,
+    text: &str,
     fault: CompileFault,
     errors: &mut Watched<E>,
 ) -> Result<u8, StreamFault>
@@ -43,7 +44,7 @@ pub(crate) fn refuse_filter<E: Write>(
         return Err(StreamFault::NoMemory);
     }
     let line = filter_line(alloc, &fault)?;
-    let note = filter_note(alloc, errors.takes_notes(), &fault);
+    let note = filter_note(alloc, errors.takes_notes(), text, &fault);
     refuse(line.as_bytes(), 3, note.as_deref(), errors)
 }
 

@@ -1,17 +1,26 @@
 // What the command does if its words ask for a session.
-ghost use Rattle.std.specs.Prelude.{◌≡◌, ℕ, List, IfErr, IfOk, map, string_bytes};
+ghost use Rattle.std.specs.Prelude.{◌≡◌, ◌≢◌, ℕ, List, Ok, Err, IfErr, IfOk, OnOk, map};
 ghost use Rattle.std.specs.Str.{chars};
-ghost use Rattle.jq_devices.specs.Files.{contents};
-ghost use Rattle.jq_devices.specs.Watched.{device_of};
+ghost use Rattle.std.specs.declared.option.Option.{Option};
+ghost use Rattle.jv_data.specs.View.{view};
+ghost use Rattle.jq_devices.specs.Watched.{HasFailed, device_of, failures_of};
+ghost use Rattle.jq_devices.specs.declared.faults.StreamFault.TheVariants.{Read as ReadFault, Write as WriteFault, NoMemory as MemoryFault};
+ghost use Rattle.jq_script.specs.Serving.{serving};
+ghost use Rattle.jq_session.specs.Sessions.{point_of};
+ghost use Rattle.jq_session.specs.declared.refusals.Refusal.TheVariants as refusals;
+ghost use Rattle.jq_starts.specs.Starts.{starts_in};
 ghost use Rattle.jq_stream.specs.Streams.{streams_of};
 ghost use Rattle.jq_syntax.specs.Chosen.{Chosen, chosen};
 ghost use Rattle.jq_stream.specs.Filters.{IsFilterOf};
 ghost use Rattle.jq_app.specs.Blaming.{IsBlamed, failures};
-ghost use Rattle.jq_app.specs.Sessions.{IsAccepted, IsSessionDone, IsSessionStopped};
+ghost use Rattle.jq_app.specs.Sessions.{IsAccepted, IsSessionDone, IsSessionStopped, too_many};
+ghost use Rattle.jq_app.specs.Stages.{stage};
+ghost use Rattle.jq_app.specs.private.Reports.{IsReport};
+ghost use Rattle.jq_app.specs.private.Served.{IsAnswered, IsCutOff};
+ghost use Rattle.jq_app.specs.private.Texts.{HaveTexts};
 
-use crate::notes::file_note;
 use crate::refusals::{refuse_filter, refuse_inputs};
-use jq_devices::{FileReader, Opener, Read, StreamFault, Watched, Write};
+use jq_devices::{Read, StreamFault, Watched, Write};
 use jq_script::serve;
 use jq_session::laws::plans_are_by_the_tree;
 use jq_session::{Refusal, Session};
@@ -20,47 +29,37 @@ use jq_stream::{Filter, InputTexts, read_texts, report_fault};
 use jq_syntax::Options;
 use std::alloc::Global;
 
-/// Compiles a filter and serves a session over the texts of the files with these names: the lines of the script are read from
-/// the input and answered. Returns the status of the process. If a file fails and the errors take notes, `cause` is a note on it.
-pub(crate) fn run_session<F: Opener, R: Read, O: Write, E: Write>(
+/// Compiles a filter and serves a session over the texts of the files: the lines of the script are read from the input and
+/// answered. Returns the status of the process, and the count of starts.
+pub(crate) fn run_session<I: Read, R: Read, O: Write, E: Write>(
     alloc: Global,
     filter: &str,
     options: Options,
     follow: bool,
     starts: Starts,
-    cause: &mut Option<String>,
-    opener: &mut Watched<F>,
-    names: &[String],
+    files: &mut Watched<I>,
     input: &mut Watched<R>,
     output: &mut Watched<O>,
     errors: &mut Watched<E>,
-) -> Result<u8, StreamFault>
-    ensures done { IfOk result (λ status. IsSessionDone (contents (F.content (device_of opener.old)) (map string_bytes names.now)) follow (chosen options) (chars filter.now)
-        (streams_of R.remaining O.contents E.contents input.old output.old errors.old) (streams_of R.remaining O.contents E.contents input.new output.new errors.new) status) }
-    ensures stopped { IfErr result (λ fault. IsSessionStopped fault (contents (F.content (device_of opener.old)) (map string_bytes names.now)) follow (chosen options) (chars filter.now)
-        (streams_of R.remaining O.contents E.contents input.old output.old errors.old) (streams_of R.remaining O.contents E.contents input.new output.new errors.new)) }
-    ensures blamed { IfErr result (λ fault. IsBlamed fault (failures opener.old input.old output.old errors.old) (failures opener.new input.new output.new errors.new)) }
+) -> (Result<u8, StreamFault>, Starts)
+    ensures done { IfOk result.0 (λ status. IsSessionDone (I.remaining (device_of files.old)) follow (chosen options) (chars filter.now)
+        (stage (streams_of R.remaining O.contents E.contents input.old output.old errors.old) (starts_in starts))
+        (stage (streams_of R.remaining O.contents E.contents input.new output.new errors.new) (starts_in result.1)) status) }
+    ensures stopped { IfErr result.0 (λ fault. IsSessionStopped fault (I.remaining (device_of files.old)) follow (chosen options) (chars filter.now)
+        (stage (streams_of R.remaining O.contents E.contents input.old output.old errors.old) (starts_in starts))
+        (stage (streams_of R.remaining O.contents E.contents input.new output.new errors.new) (starts_in result.1))) }
+    ensures blamed { IfErr result.0 (λ fault. IsBlamed fault (failures (failures_of files.old) input.old output.old errors.old) (failures (failures_of files.new) input.new output.new errors.new)) }
     ensures unread { ¬ (IsAccepted (chosen options) (chars filter.now)) → input.new ≡ input.old }
 {
     match Filter::compile(alloc, filter, options) {
-        Ok(filter) => {
-            let reader = FileReader::new(opener.device(), names);
-            let mut files = Watched::new(reader);
-            let result = serve_filter(
-                alloc, filter, follow, starts, &mut files, input, output, errors,
-            );
-            if errors.takes_notes() {
-                *cause = file_note(alloc, &files);
-            }
-            let failures = files.into_failures();
-            opener.add_failures(failures);
-            result
-        }
-        Err(fault) => refuse_filter(alloc, fault, errors),
+        Ok(compiled) => serve_filter(
+            alloc, compiled, follow, starts, files, input, output, errors,
+        ),
+        Err(fault) => (refuse_filter(alloc, filter, fault, errors), starts),
     }
 }
 
-// Serves a session of a filter over the texts of the files.
+// Reads the texts of the files, and serves a session of a filter over them.
 fn serve_filter<I: Read, R: Read, O: Write, E: Write>(
     alloc: Global,
     filter: Filter,
@@ -70,26 +69,91 @@ fn serve_filter<I: Read, R: Read, O: Write, E: Write>(
     input: &mut Watched<R>,
     output: &mut Watched<O>,
     errors: &mut Watched<E>,
-) -> Result<u8, StreamFault>
-    ensures done { IfOk result (λ status. (o : Chosen) (text : List ℕ) → IsFilterOf o text filter → IsSessionDone (I.remaining (device_of files.old)) follow o text
-        (streams_of R.remaining O.contents E.contents input.old output.old errors.old) (streams_of R.remaining O.contents E.contents input.new output.new errors.new) status) }
-    ensures stopped { IfErr result (λ fault. (o : Chosen) (text : List ℕ) → IsFilterOf o text filter → IsSessionStopped fault (I.remaining (device_of files.old)) follow o text
-        (streams_of R.remaining O.contents E.contents input.old output.old errors.old) (streams_of R.remaining O.contents E.contents input.new output.new errors.new)) }
-    ensures blamed { IfErr result (λ fault. IsBlamed fault (failures files.old input.old output.old errors.old) (failures files.new input.new output.new errors.new)) }
+) -> (Result<u8, StreamFault>, Starts)
+    ensures done { IfOk result.0 (λ status. (o : Chosen) (text : List ℕ) → IsFilterOf o text filter → IsSessionDone (I.remaining (device_of files.old)) follow o text
+        (stage (streams_of R.remaining O.contents E.contents input.old output.old errors.old) (starts_in starts))
+        (stage (streams_of R.remaining O.contents E.contents input.new output.new errors.new) (starts_in result.1)) status) }
+    ensures stopped { IfErr result.0 (λ fault. (o : Chosen) (text : List ℕ) → IsFilterOf o text filter → IsSessionStopped fault (I.remaining (device_of files.old)) follow o text
+        (stage (streams_of R.remaining O.contents E.contents input.old output.old errors.old) (starts_in starts))
+        (stage (streams_of R.remaining O.contents E.contents input.new output.new errors.new) (starts_in result.1))) }
+    ensures blamed { IfErr result.0 (λ fault. IsBlamed fault (failures (failures_of files.old) input.old output.old errors.old) (failures (failures_of files.new) input.new output.new errors.new)) }
 {
-    let InputTexts { values, fault } = read_texts(alloc, files)?;
+    match read_texts(alloc, files) {
+        Ok(texts) => serve_texts(alloc, filter, follow, starts, texts, input, output, errors),
+        Err(fault) => (Err(fault), starts),
+    }
+}
+
+// Serves a session of a filter over these texts.
+fn serve_texts<R: Read, O: Write, E: Write>(
+    alloc: Global,
+    filter: Filter,
+    follow: bool,
+    starts: Starts,
+    texts: InputTexts,
+    input: &mut Watched<R>,
+    output: &mut Watched<O>,
+    errors: &mut Watched<E>,
+) -> (Result<u8, StreamFault>, Starts)
+    ensures done { IfOk result.0 (λ status. (files : Option (List ℕ)) (o : Chosen) (text : List ℕ) → HaveTexts files (map view texts.values.items) texts.fault → IsFilterOf o text filter
+        → IsSessionDone files follow o text (stage (streams_of R.remaining O.contents E.contents input.old output.old errors.old) (starts_in starts))
+        (stage (streams_of R.remaining O.contents E.contents input.new output.new errors.new) (starts_in result.1)) status) }
+    ensures stopped { IfErr result.0 (λ fault. (files : Option (List ℕ)) (o : Chosen) (text : List ℕ) → HaveTexts files (map view texts.values.items) texts.fault → IsFilterOf o text filter
+        → IsSessionStopped fault files follow o text (stage (streams_of R.remaining O.contents E.contents input.old output.old errors.old) (starts_in starts))
+        (stage (streams_of R.remaining O.contents E.contents input.new output.new errors.new) (starts_in result.1))) }
+    ensures blamed { IfErr result.0 (λ fault. (files : ℕ) → IsBlamed fault (failures files input.old output.old errors.old) (failures files input.new output.new errors.new)) }
+{
+    let InputTexts { values, fault } = texts;
     if let Some(fault) = fault {
-        return report_fault(alloc, fault, errors);
+        return (report_fault(alloc, fault, errors), starts);
     }
     plans_are_by_the_tree();
     match Session::start(alloc, starts, filter, values) {
-        Ok(mut session) => {
-            serve(alloc, follow, &mut session, input, output)?;
-            Ok(0)
-        }
-        Err(refused) => match refused.refusal {
-            Refusal::Full => refuse_inputs(errors),
-            Refusal::NoPlace | Refusal::Write | Refusal::NoMemory => Err(StreamFault::NoMemory),
-        },
+        Ok(session) => serve_session(alloc, follow, session, input, output),
+        Err(refused) => (refuse_start(refused.refusal, errors), refused.starts),
+    }
+}
+
+// Serves a session, and returns the status and the session's count of starts.
+fn serve_session<R: Read, O: Write>(
+    alloc: Global,
+    follow: bool,
+    session: Session,
+    input: &mut Watched<R>,
+    output: &mut Watched<O>,
+) -> (Result<u8, StreamFault>, Starts)
+    ensures served { IfOk result.0 (λ status. IsAnswered follow status (serving (R.remaining (device_of input.old)) (O.contents (device_of output.old)) (point_of session))
+        (R.remaining (device_of input.new)) (O.contents (device_of output.new)) (starts_in result.1)) }
+    ensures stopped { IfErr result.0 (λ fault. IsCutOff follow fault (serving (R.remaining (device_of input.old)) (O.contents (device_of output.old)) (point_of session))
+        (R.remaining (device_of input.new)) (O.contents (device_of output.new)) (starts_in result.1)) }
+    ensures read_failed { IfErr result.0 (λ fault. fault ≡ ReadFault → HasFailed (failures_of input.old) (failures_of input.new)) }
+    ensures write_failed { IfErr result.0 (λ fault. fault ≡ WriteFault → HasFailed (failures_of output.old) (failures_of output.new)) }
+{
+    let mut session = session;
+    let served = serve(alloc, follow, &mut session, input, output);
+    (status_of(served), session.into_starts())
+}
+
+// The status of a session that was served.
+fn status_of(served: Result<(), StreamFault>) -> Result<u8, StreamFault>
+    ensures ok { OnOk served (result ≡ Ok 0) }
+    ensures err { IfErr served (λ fault. result ≡ Err fault) }
+{
+    match served {
+        Ok(()) => Ok(0),
+        Err(fault) => Err(fault),
+    }
+}
+
+// Reports that there are too many inputs, if a session was refused for this reason. Otherwise memory ran out.
+fn refuse_start<E: Write>(refusal: Refusal, errors: &mut Watched<E>) -> Result<u8, StreamFault>
+    ensures full { refusal ≡ refusals.Full → IsReport result too_many.errors 2 (E.contents (device_of errors.old)) (E.contents (device_of errors.new)) }
+    ensures memory { refusal ≢ refusals.Full → (result ≡ Err MemoryFault) × (errors.new ≡ errors.old) }
+    ensures failed { IfErr result (λ fault. fault ≡ WriteFault → HasFailed (failures_of errors.old) (failures_of errors.new)) }
+    ensures fault { IfErr result (λ fault. fault ≢ ReadFault) }
+{
+    match refusal {
+        Refusal::Full => refuse_inputs(errors),
+        Refusal::NoPlace | Refusal::Write | Refusal::NoMemory => Err(StreamFault::NoMemory),
     }
 }

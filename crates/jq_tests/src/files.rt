@@ -4,7 +4,7 @@ ghost use Rattle.std.specs.declared.option.Option.{Option};
 
 use crate::fakes::Compared;
 use crate::starting::compile_under;
-use jq_devices::{FileReader, Opener, Read, StreamFault, Watched};
+use jq_devices::{Opener, Read, StreamFault, UnnamedFiles, Watched};
 use jq_starts::Starts;
 use jq_stream::run_stream;
 use std::alloc::Global;
@@ -102,7 +102,7 @@ fn reads_files_one_after_the_other(rt: HostRuntime) -> Result<(), Fail> {
     ];
     for (row, most, reads, want) in rows {
         let names = words(alloc, row)?;
-        let mut reader = FileReader::new(&memory, &names);
+        let mut reader = UnnamedFiles::new(&memory).named(names);
         let given = shown(alloc, &mut reader, most, reads)?;
         assert_eq!(rt; given.as_str(), want, "{row}");
     }
@@ -125,7 +125,6 @@ fn runs_over_files_that_fail(rt: HostRuntime) -> Result<(), Fail> {
         ("missing first second", "", "[]\n"),
         ("broken", "4\n", "[4]\n"),
     ] {
-        let names = words(alloc, row)?;
         for (flag, filter, out) in [
             ("", ".", lines),
             ("-n", "[inputs]", array),
@@ -139,7 +138,7 @@ fn runs_over_files_that_fail(rt: HostRuntime) -> Result<(), Fail> {
                 &compiled.runner(),
                 compiled.settings(),
                 &mut starts,
-                &mut Watched::new(FileReader::new(&memory, &names)),
+                &mut Watched::new(UnnamedFiles::new(&memory).named(words(alloc, row)?)),
                 &mut output,
                 &mut errors,
             );

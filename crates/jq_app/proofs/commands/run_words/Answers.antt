@@ -9,7 +9,7 @@ returns-then-asks-clause-served g c =
     ap (λ ws. asks_for_notes (map string_bytes ws)) (sym c.as_slice.ensures.value) ∙ sym c.asks_for_notes-asks.ensures ∙ c.if-asks.true in (
       _,
       shown_noted _ _ _ _ asks c.into_noted.ensures.noted,
-      noted_result _ _ _ _ _ _ _ _ _ _ _ _ _ _ _ _ _ _ _ _ c.noting-noted.ensures.failures c.into_noted.ensures.failures c.noting-noted.ensures.contents c.run_reported-status.ensures.served,
+      noted_result _ _ _ _ _ _ _ _ _ _ _ _ _ _ _ _ _ _ _ _ _ _ c.noting-noted.ensures.failures c.into_noted.ensures.failures c.noting-noted.ensures.contents c.run_reported-status.ensures.served,
     )
 
 pub returns-clause-served : goal.returns-clause-served

@@ -1,66 +1,87 @@
-use Rattle.std.proofs.Common.{◌≡◌, ◌≢◌, [], map, string_bytes}
+use Rattle.std.proofs.Common.{◌≡◌, ◌≢◌, ◌∙◌, [], inl, inr, refl, sym, ap, subst}
+use Rattle.std.specs.Str.{chars}
 use Rattle.jq_cli.specs.Configuration.{shown}
+use Rattle.jq_devices.specs.Files.{bytes_left}
 use Rattle.jq_devices.specs.Watched.{device_of}
+use Rattle.jq_starts.specs.Starts.{starts_in}
 use Rattle.jq_stream.specs.Streams.{streams_of}
-use Rattle.jq_app.proofs.Blaming.{blamed_by_files, blamed_by_input}
-use Rattle.jq_app.proofs.Names.{no_names, same_names, some_names}
+use Rattle.jq_syntax.specs.Chosen.{chosen}
+use Rattle.jq_app.specs.Filters.{FilterNeedsInput}
+use Rattle.jq_app.specs.Sessions.{IsAccepted}
+use Rattle.jq_app.specs.Stages.{stage}
+use Rattle.jq_app.proofs.Blaming.{blamed_by_files, blamed_by_input, blamed_from, failed_from}
+use Rattle.jq_app.proofs.Names.{no_names, some_names}
 use Rattle.jq_app.proofs.Outcomes.{stopped_by_files, stopped_here, stopped_session, done_by_files, done_here, done_session}
 use Rattle.jq_app.proofs.serving.run_config.Goals as goal
 
-pub returns-then-is_empty-clause-done : goal.returns-then-is_empty-clause-done
-returns-then-is_empty-clause-done g c =
-    let none : (shown c.args.config).files ≡ [] = no_names c.as_slice-names.result.now c.args.config.files.items c.as_slice-names.ensures.value c.if-is_empty.ensures in
-    done_here c.run_filter.result (g.F.Opener.content (device_of c.args.opener.now)) (shown c.args.config) c.as_str-text.result.now
-    (streams_of g.R.Read.remaining g.O.Write.contents g.E.Write.contents c.args.input.now c.args.output.now c.args.errors.now)
-    (streams_of g.R.Read.remaining g.O.Write.contents g.E.Write.contents c.run_filter.new.input c.run_filter.new.output c.run_filter.new.errors)
-    c.if-live.false none c.as_str-text.ensures.value c.run_filter.ensures.done
-
-pub returns-then-is_empty-clause-stopped : goal.returns-then-is_empty-clause-stopped
-returns-then-is_empty-clause-stopped g c =
-    let none : (shown c.args.config).files ≡ [] = no_names c.as_slice-names.result.now c.args.config.files.items c.as_slice-names.ensures.value c.if-is_empty.ensures in
-    stopped_here c.run_filter.result (g.F.Opener.content (device_of c.args.opener.now)) (shown c.args.config) c.as_str-text.result.now
-    (streams_of g.R.Read.remaining g.O.Write.contents g.E.Write.contents c.args.input.now c.args.output.now c.args.errors.now)
-    (streams_of g.R.Read.remaining g.O.Write.contents g.E.Write.contents c.run_filter.new.input c.run_filter.new.output c.run_filter.new.errors)
-    c.if-live.false none c.as_str-text.ensures.value c.run_filter.ensures.stopped
-
-pub returns-clause-done : goal.returns-clause-done
-returns-clause-done g c =
-    let names = c.as_slice-names.result.now in
-    let files = c.args.config.files.items in
-    let some : (shown c.args.config).files ≢ [] = some_names names files c.as_slice-names.ensures.value c.if-is_empty.ensures in
-    done_by_files c.run_over_files.result (g.F.Opener.content (device_of c.args.opener.now)) (shown c.args.config) c.as_str-text.result.now (map string_bytes names)
-    (g.R.Read.remaining (device_of c.args.input.now)) (g.O.Write.contents (device_of c.args.output.now)) (g.E.Write.contents (device_of c.args.errors.now))
-    (g.O.Write.contents (device_of c.run_over_files.new.output)) (g.E.Write.contents (device_of c.run_over_files.new.errors))
-    c.if-live.false some c.as_str-text.ensures.value (same_names names files c.as_slice-names.ensures.value) c.run_over_files.ensures.done
-
-pub returns-clause-stopped : goal.returns-clause-stopped
-returns-clause-stopped g c =
-    let names = c.as_slice-names.result.now in
-    let files = c.args.config.files.items in
-    let some : (shown c.args.config).files ≢ [] = some_names names files c.as_slice-names.ensures.value c.if-is_empty.ensures in
-    stopped_by_files c.run_over_files.result (g.F.Opener.content (device_of c.args.opener.now)) (shown c.args.config) c.as_str-text.result.now (map string_bytes names)
-    (g.R.Read.remaining (device_of c.args.input.now)) (g.O.Write.contents (device_of c.args.output.now)) (g.E.Write.contents (device_of c.args.errors.now))
-    (g.O.Write.contents (device_of c.run_over_files.new.output)) (g.E.Write.contents (device_of c.run_over_files.new.errors))
-    c.if-live.false some c.as_str-text.ensures.value (same_names names files c.as_slice-names.ensures.value) c.run_over_files.ensures.stopped
+-- ---- a session
 
 pub returns-then-live-clause-done : goal.returns-then-live-clause-done
 returns-then-live-clause-done g c =
-    let names = c.as_slice-names.result.now in
-    done_session c.run_session.result (g.F.Opener.content (device_of c.args.opener.now)) (shown c.args.config) c.as_str-text.result.now (map string_bytes names)
-    (streams_of g.R.Read.remaining g.O.Write.contents g.E.Write.contents c.args.input.now c.args.output.now c.args.errors.now)
-    (streams_of g.R.Read.remaining g.O.Write.contents g.E.Write.contents c.run_session.new.input c.run_session.new.output c.run_session.new.errors)
-    c.if-live.true c.as_str-text.ensures.value (same_names names c.args.config.files.items c.as_slice-names.ensures.value) c.run_session.ensures.done
+    let left = bytes_left g.F.Opener.content g.F.File.Read.remaining in
+    done_session c.run_session-result.result.0 _ _ (shown c.args.config) c.as_str-text.result.now (left (device_of c.new-files.result)) _ _ c.if-live.true c.as_str-text.ensures.value
+    (ap left c.new-files.ensures.device ∙ c.named.ensures.whole) c.run_session-result.ensures.done
 
 pub returns-then-live-clause-stopped : goal.returns-then-live-clause-stopped
 returns-then-live-clause-stopped g c =
-    let names = c.as_slice-names.result.now in
-    stopped_session c.run_session.result (g.F.Opener.content (device_of c.args.opener.now)) (shown c.args.config) c.as_str-text.result.now (map string_bytes names)
-    (streams_of g.R.Read.remaining g.O.Write.contents g.E.Write.contents c.args.input.now c.args.output.now c.args.errors.now)
-    (streams_of g.R.Read.remaining g.O.Write.contents g.E.Write.contents c.run_session.new.input c.run_session.new.output c.run_session.new.errors)
-    c.if-live.true c.as_str-text.ensures.value (same_names names c.args.config.files.items c.as_slice-names.ensures.value) c.run_session.ensures.stopped
+    let left = bytes_left g.F.Opener.content g.F.File.Read.remaining in
+    stopped_session c.run_session-result.result.0 _ _ (shown c.args.config) c.as_str-text.result.now (left (device_of c.new-files.result)) _ _ c.if-live.true c.as_str-text.ensures.value
+    (ap left c.new-files.ensures.device ∙ c.named.ensures.whole) c.run_session-result.ensures.stopped
 
-pub returns-then-is_empty-clause-blamed : goal.returns-then-is_empty-clause-blamed
-returns-then-is_empty-clause-blamed g c = blamed_by_input c.run_filter.result _ _ c.run_filter.ensures.read_failed c.run_filter.ensures.write_failed
+pub returns-then-live-clause-blamed : goal.returns-then-live-clause-blamed
+returns-then-live-clause-blamed g c = blamed_from c.run_session-result.result.0 0 _ _ _ _ _ c.new-files.ensures.failures c.run_session-result.ensures.blamed
+
+pub returns-then-live-clause-unread : goal.returns-then-live-clause-unread
+returns-then-live-clause-unread g c = λ none.
+    c.run_session-result.ensures.unread (λ accepted. none (inr (c.if-live.true, subst (λ t. IsAccepted (chosen c.args.config.options) (chars t)) c.as_str-text.ensures.value accepted)))
+
+-- ---- the standard input
+
+pub returns-then-no_file-clause-done : goal.returns-then-no_file-clause-done
+returns-then-no_file-clause-done g c =
+    let none : (shown c.args.config).files ≡ [] = no_names c.as_slice.result.now c.args.config.files.items c.as_slice.ensures.value (sym c.if-no_file.true ∙ c.is_empty-no_file.ensures) in
+    done_here c.run_filter-result.result _ (shown c.args.config) c.as_str-text.result.now
+    (stage (streams_of g.R.Read.remaining g.O.Write.contents g.E.Write.contents c.args.input.now c.args.output.now c.args.errors.now) (starts_in c.args.starts))
+    (stage (streams_of g.R.Read.remaining g.O.Write.contents g.E.Write.contents c.run_filter-result.new.input c.run_filter-result.new.output c.run_filter-result.new.errors) (starts_in c.run_filter-result.new.starts))
+    c.if-live.false none c.as_str-text.ensures.value c.run_filter-result.ensures.done
+
+pub returns-then-no_file-clause-stopped : goal.returns-then-no_file-clause-stopped
+returns-then-no_file-clause-stopped g c =
+    let none : (shown c.args.config).files ≡ [] = no_names c.as_slice.result.now c.args.config.files.items c.as_slice.ensures.value (sym c.if-no_file.true ∙ c.is_empty-no_file.ensures) in
+    stopped_here c.run_filter-result.result _ (shown c.args.config) c.as_str-text.result.now
+    (stage (streams_of g.R.Read.remaining g.O.Write.contents g.E.Write.contents c.args.input.now c.args.output.now c.args.errors.now) (starts_in c.args.starts))
+    (stage (streams_of g.R.Read.remaining g.O.Write.contents g.E.Write.contents c.run_filter-result.new.input c.run_filter-result.new.output c.run_filter-result.new.errors) (starts_in c.run_filter-result.new.starts))
+    c.if-live.false none c.as_str-text.ensures.value c.run_filter-result.ensures.stopped
+
+pub returns-then-no_file-clause-blamed : goal.returns-then-no_file-clause-blamed
+returns-then-no_file-clause-blamed g c = blamed_by_input c.run_filter-result.result _ _ c.run_filter-result.ensures.read_failed c.run_filter-result.ensures.write_failed
+
+pub returns-then-no_file-clause-unread : goal.returns-then-no_file-clause-unread
+returns-then-no_file-clause-unread g c = λ reads_none.
+    let none : (shown c.args.config).files ≡ [] = no_names c.as_slice.result.now c.args.config.files.items c.as_slice.ensures.value (sym c.if-no_file.true ∙ c.is_empty-no_file.ensures) in
+    c.run_filter-result.ensures.unread
+    (λ needs. reads_none (inl (c.if-live.false, none, subst (λ t. FilterNeedsInput (chosen c.args.config.options) (chars t)) c.as_str-text.ensures.value needs)))
+
+-- ---- the files
+
+pub returns-clause-done : goal.returns-clause-done
+returns-clause-done g c =
+    let left = bytes_left g.F.Opener.content g.F.File.Read.remaining in
+    let some : (shown c.args.config).files ≢ [] = some_names c.as_slice.result.now c.args.config.files.items c.as_slice.ensures.value (sym c.if-no_file.false ∙ c.is_empty-no_file.ensures) in
+    done_by_files c.run_filter-result-2.result _ (shown c.args.config) c.as_str-text.result.now (left (device_of c.new-files.result)) (left (device_of c.run_filter-result-2.new.input))
+    (stage (streams_of g.R.Read.remaining g.O.Write.contents g.E.Write.contents c.args.input.now c.args.output.now c.args.errors.now) (starts_in c.args.starts))
+    (stage (streams_of g.R.Read.remaining g.O.Write.contents g.E.Write.contents c.args.input.now c.run_filter-result-2.new.output c.run_filter-result-2.new.errors) (starts_in c.run_filter-result-2.new.starts))
+    c.if-live.false some c.as_str-text.ensures.value (ap left c.new-files.ensures.device ∙ c.named.ensures.whole) refl c.run_filter-result-2.ensures.done
+
+pub returns-clause-stopped : goal.returns-clause-stopped
+returns-clause-stopped g c =
+    let left = bytes_left g.F.Opener.content g.F.File.Read.remaining in
+    let some : (shown c.args.config).files ≢ [] = some_names c.as_slice.result.now c.args.config.files.items c.as_slice.ensures.value (sym c.if-no_file.false ∙ c.is_empty-no_file.ensures) in
+    stopped_by_files c.run_filter-result-2.result _ (shown c.args.config) c.as_str-text.result.now (left (device_of c.new-files.result)) (left (device_of c.run_filter-result-2.new.input))
+    (stage (streams_of g.R.Read.remaining g.O.Write.contents g.E.Write.contents c.args.input.now c.args.output.now c.args.errors.now) (starts_in c.args.starts))
+    (stage (streams_of g.R.Read.remaining g.O.Write.contents g.E.Write.contents c.args.input.now c.run_filter-result-2.new.output c.run_filter-result-2.new.errors) (starts_in c.run_filter-result-2.new.starts))
+    c.if-live.false some c.as_str-text.ensures.value (ap left c.new-files.ensures.device ∙ c.named.ensures.whole) refl c.run_filter-result-2.ensures.stopped
 
 pub returns-clause-blamed : goal.returns-clause-blamed
-returns-clause-blamed g c = blamed_by_files c.run_over_files.result _ _ c.run_over_files.ensures.read_failed c.run_over_files.ensures.write_failed
+returns-clause-blamed g c =
+    blamed_by_files c.run_filter-result-2.result _ _ (failed_from c.run_filter-result-2.result 0 _ _ c.new-files.ensures.failures c.run_filter-result-2.ensures.read_failed) c.run_filter-result-2.ensures.write_failed

@@ -1,56 +1,41 @@
-use Rattle.std.proofs.Common.{◌≡◌, ◌∙◌, ap, refl, map, string_bytes}
+use Rattle.std.proofs.Common.{refl}
 use Rattle.std.specs.Str.{chars}
-use Rattle.jq_devices.specs.Files.{bytes_left, contents}
 use Rattle.jq_devices.specs.Watched.{device_of}
+use Rattle.jq_starts.specs.Starts.{starts_in}
+use Rattle.jq_stream.specs.Filters.{filter_job, filter_mode}
 use Rattle.jq_stream.specs.Streams.{streams_of}
 use Rattle.jq_syntax.specs.Chosen.{chosen}
-use Rattle.jq_app.proofs.Blaming.{blamed_by_part, blamed_by_report, some_failed}
-use Rattle.jq_app.proofs.Live.{stopped_over, done_over}
+use Rattle.jv_meaning.proofs.shared.Results.{if_err_map, if_ok_map}
+use Rattle.jq_app.specs.Stages.{stage}
+use Rattle.jq_app.proofs.Blaming.{blamed_by_report}
 use Rattle.jq_app.proofs.FilterRefusals.{filter_refusal, session_refusal_stopped, session_refused}
 use Rattle.jq_app.proofs.Reporting.{report_answered, report_stopped}
-use Rattle.jq_stream.specs.Filters.{filter_job, filter_mode}
 use Rattle.jq_app.proofs.sessions.run_session.Goals as goal
 
-pub returns-after-takes_notes-clause-done : goal.returns-after-takes_notes-clause-done
-returns-after-takes_notes-clause-done g c =
-    let left = bytes_left g.F.Opener.content g.F.File.Read.remaining in
-    let names = map string_bytes c.args.names.now in
-    let whole : left (device_of c.new-files.result) ≡ contents (g.F.Opener.content (device_of c.args.opener.now)) names =
-    ap left c.new-files.ensures.device ∙ c.new-reader.ensures.whole ∙ ap (λ o. contents (g.F.Opener.content o) names) c.device.ensures in
-    done_over c.serve_filter-result.result _ (contents (g.F.Opener.content (device_of c.args.opener.now)) names) c.args.follow (chosen c.args.options) c.in-Ok.filter (chars c.args.filter.now)
-    (streams_of g.R.Read.remaining g.O.Write.contents g.E.Write.contents c.args.input.now c.args.output.now c.args.errors.now)
-    (streams_of g.R.Read.remaining g.O.Write.contents g.E.Write.contents c.serve_filter-result.new.input c.serve_filter-result.new.output c.serve_filter-result.new.errors)
-    whole c.in-Ok.ensures.accepted c.serve_filter-result.ensures.done
+pub returns-in-Ok-clause-done : goal.returns-in-Ok-clause-done
+returns-in-Ok-clause-done g c = if_ok_map c.serve_filter.result.0 c.serve_filter.ensures.done (λ answer done. done (chosen c.args.options) (chars c.args.filter.now) c.in-Ok.ensures.accepted)
 
-pub returns-after-takes_notes-clause-stopped : goal.returns-after-takes_notes-clause-stopped
-returns-after-takes_notes-clause-stopped g c =
-    let left = bytes_left g.F.Opener.content g.F.File.Read.remaining in
-    let names = map string_bytes c.args.names.now in
-    let whole : left (device_of c.new-files.result) ≡ contents (g.F.Opener.content (device_of c.args.opener.now)) names =
-    ap left c.new-files.ensures.device ∙ c.new-reader.ensures.whole ∙ ap (λ o. contents (g.F.Opener.content o) names) c.device.ensures in
-    stopped_over c.serve_filter-result.result _ (contents (g.F.Opener.content (device_of c.args.opener.now)) names) c.args.follow (chosen c.args.options) c.in-Ok.filter (chars c.args.filter.now)
-    (streams_of g.R.Read.remaining g.O.Write.contents g.E.Write.contents c.args.input.now c.args.output.now c.args.errors.now)
-    (streams_of g.R.Read.remaining g.O.Write.contents g.E.Write.contents c.serve_filter-result.new.input c.serve_filter-result.new.output c.serve_filter-result.new.errors)
-    whole c.in-Ok.ensures.accepted c.serve_filter-result.ensures.stopped
+pub returns-in-Ok-clause-stopped : goal.returns-in-Ok-clause-stopped
+returns-in-Ok-clause-stopped g c = if_err_map c.serve_filter.result.0 c.serve_filter.ensures.stopped (λ f stopped. stopped (chosen c.args.options) (chars c.args.filter.now) c.in-Ok.ensures.accepted)
 
-pub returns-after-takes_notes-clause-blamed : goal.returns-after-takes_notes-clause-blamed
-returns-after-takes_notes-clause-blamed g c =
-    blamed_by_part c.serve_filter-result.result _ _ _ _ _ _ _ _ _ _
-    (λ failed. c.add_failures.ensures.failed (some_failed _ _ _ c.into_failures-failures.ensures failed)) c.serve_filter-result.ensures.blamed
-
-pub returns-after-takes_notes-clause-unread : goal.returns-after-takes_notes-clause-unread
-returns-after-takes_notes-clause-unread g c = λ none. absurd (none (filter_mode c.in-Ok.filter, filter_job c.in-Ok.filter, c.in-Ok.ensures.accepted.accepted.accepts))
+pub returns-in-Ok-clause-unread : goal.returns-in-Ok-clause-unread
+returns-in-Ok-clause-unread g c = λ none. absurd (none (filter_mode c.in-Ok.compiled, filter_job c.in-Ok.compiled, c.in-Ok.ensures.accepted.accepted.accepts))
 
 pub returns-in-Err-clause-done : goal.returns-in-Err-clause-done
 returns-in-Err-clause-done g c =
     let f = c.in-Err.fault in
-    session_refused c.refuse_filter.result _ c.args.follow (chosen c.args.options) (chars c.args.filter.now) f _ _ refl c.in-Err.ensures.refused c.refuse_filter.ensures.memory
-    (report_answered c.refuse_filter.result (filter_refusal f).errors 3 (g.O.Write.contents (device_of c.args.output.now)) _ _ c.refuse_filter.ensures.report)
+    let old = stage (streams_of g.R.Read.remaining g.O.Write.contents g.E.Write.contents c.args.input.now c.args.output.now c.args.errors.now) (starts_in c.args.starts) in
+    let new = stage (streams_of g.R.Read.remaining g.O.Write.contents g.E.Write.contents c.args.input.now c.args.output.now c.refuse_filter.new.errors) (starts_in c.args.starts) in
+    session_refused c.refuse_filter.result (g.I.Read.remaining (device_of c.args.files.now)) c.args.follow (chosen c.args.options) (chars c.args.filter.now) f old new (refl, refl) c.in-Err.ensures.refused
+    c.refuse_filter.ensures.memory (report_answered c.refuse_filter.result (filter_refusal f).errors 3 (g.O.Write.contents (device_of c.args.output.now)) _ _ c.refuse_filter.ensures.report)
 
 pub returns-in-Err-clause-stopped : goal.returns-in-Err-clause-stopped
 returns-in-Err-clause-stopped g c =
     let f = c.in-Err.fault in
-    session_refusal_stopped c.refuse_filter.result _ c.args.follow (chosen c.args.options) (chars c.args.filter.now) f _ _ refl c.in-Err.ensures.refused c.refuse_filter.ensures.memory
+    let old = stage (streams_of g.R.Read.remaining g.O.Write.contents g.E.Write.contents c.args.input.now c.args.output.now c.args.errors.now) (starts_in c.args.starts) in
+    let new = stage (streams_of g.R.Read.remaining g.O.Write.contents g.E.Write.contents c.args.input.now c.args.output.now c.refuse_filter.new.errors) (starts_in c.args.starts) in
+    session_refusal_stopped c.refuse_filter.result (g.I.Read.remaining (device_of c.args.files.now)) c.args.follow (chosen c.args.options) (chars c.args.filter.now) f old new (refl, refl)
+    c.in-Err.ensures.refused c.refuse_filter.ensures.memory
     (report_stopped c.refuse_filter.result (filter_refusal f).errors 3 (g.R.Read.remaining (device_of c.args.input.now)) (g.O.Write.contents (device_of c.args.output.now)) _ _ c.refuse_filter.ensures.report)
 
 pub returns-in-Err-clause-blamed : goal.returns-in-Err-clause-blamed
