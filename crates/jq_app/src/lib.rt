@@ -1,8 +1,7 @@
 //! The command `jql`: what it does with its words, its input and its two outputs.
 //!
 //! The words of the process (`words`) ask for a configuration or are refused (`commands`). The filter of a configuration is
-//! compiled, prepared (`preparing`) and run over the input (`serving`) or over the inputs of a session (`sessions`). In place
-//! of a run, the help text, the version or the reason of a refusal is written (`refusals`). With `--explain`, notes follow the
+//! compiled and run over the input (`serving`) or over the inputs of a session (`sessions`). In place of a run, the help text, the version or the reason of a refusal is written (`refusals`). With `--explain`, notes follow the
 //! lines on standard error (`notes`, `builtins`). The definitions that their contracts name are in `specs/`.
 //!
 //! Entry: `run_words`, `run_filter`. Tests: `tests/program.py`, `tests/options.toml`, `tests/memory.py`.
@@ -11,12 +10,11 @@
 mod builtins;
 mod commands;
 mod notes;
-mod preparing;
 mod refusals;
 mod serving;
 mod sessions;
 mod words;
 
 pub use commands::{Finished, run_words};
-pub use serving::{run_filter, run_program};
+pub use serving::{run_compiled, run_filter};
 pub use words::{arguments, report, report_misuse};

@@ -6,24 +6,23 @@ ghost use Rattle.jq_devices.specs.Files.{bytes_left, opener_of};
 ghost use Rattle.jq_devices.specs.Watched.{HasFailed, device_of, failures_of};
 ghost use Rattle.jq_devices.specs.declared.faults.StreamFault.TheVariants.{Read as ReadFault, Write as WriteFault};
 ghost use Rattle.jq_starts.specs.Starts.{starts_in};
+ghost use Rattle.jq_stream.specs.Filters.{IsFilterOf};
 ghost use Rattle.jq_stream.specs.Streams.{streams_of};
 ghost use Rattle.jq_stream.specs.Failures.{AnOutputHasFailed, output_failures};
-ghost use Rattle.jq_syntax.specs.Chosen.{chosen};
-ghost use Rattle.jq_syntax.specs.Compiled.{IsProgramOf};
+ghost use Rattle.jq_syntax.specs.Chosen.{Chosen, chosen};
 ghost use Rattle.jq_app.specs.Blaming.{IsBlamed, failures};
 ghost use Rattle.jq_app.specs.Filters.{FilterNeedsInput, HasRun, HasStopped, IsFilterDone, IsFilterStopped};
 ghost use Rattle.jq_app.specs.Served.{IsConfigurationDone, ReadsInput};
 ghost use Rattle.jq_app.specs.Stages.{files_of, stage};
 ghost use Rattle.jq_app.specs.Stopped.{IsConfigurationStopped};
 
-use crate::preparing::prepare;
 use crate::refusals::refuse_filter;
 use crate::sessions::run_session;
 use jq_cli::Config;
 use jq_devices::{FileReader, Opener, Read, StreamFault, UnnamedFiles, Watched, Write};
 use jq_starts::Starts;
-use jq_stream::{Runner, run_stream};
-use jq_syntax::{Options, Program, compile};
+use jq_stream::{Filter, run_stream};
+use jq_syntax::Options;
 use std::alloc::Global;
 
 /// What a command returns, with the count of its starts and the reader of its files.
@@ -122,44 +121,31 @@ pub fn run_filter<R: Read, O: Write, E: Write>(
     ensures write_failed { IfErr result (λ fault. fault ≡ WriteFault → AnOutputHasFailed (output_failures output.old errors.old) (output_failures output.new errors.new)) }
     ensures unread { ¬ (FilterNeedsInput (chosen options) (chars filter.now)) → input.new ≡ input.old }
 {
-    match compile(alloc, filter, &options) {
-        Ok(program) => run_program(alloc, program, options, starts, input, output, errors),
+    match Filter::compile(alloc, filter, options) {
+        Ok(compiled) => run_compiled(alloc, &compiled, starts, input, output, errors),
         Err(fault) => refuse_filter(alloc, filter, fault, errors),
     }
 }
 
-/// Runs a filter that was compiled under these options over the input, and returns the status of the process (manual of jq 1.7,
-/// "Invoking jq"). After an error the first bytes of the outcome were written; the error's line is not.
-pub fn run_program<R: Read, O: Write, E: Write>(
+/// Runs a compiled filter over the input, and returns the status of the process (manual of jq 1.7, "Invoking jq"). After an
+/// error the first bytes of the outcome were written; the error's line is not.
+pub fn run_compiled<R: Read, O: Write, E: Write>(
     alloc: Global,
-    program: Program,
-    options: Options,
+    filter: &Filter,
     starts: &mut Starts,
     input: &mut Watched<R>,
     output: &mut Watched<O>,
     errors: &mut Watched<E>,
 ) -> Result<u8, StreamFault>
-    ensures ran { IfOk result (λ status. (text : List ℕ) → IsProgramOf text options program → HasRun (chosen options) text
+    ensures ran { IfOk result (λ status. (o : Chosen) (text : List ℕ) → IsFilterOf o text filter.now → HasRun o text
         (streams_of R.remaining O.contents E.contents input.old output.old errors.old) (streams_of R.remaining O.contents E.contents input.new output.new errors.new) status) }
-    ensures stopped { IfErr result (λ fault. (text : List ℕ) → IsProgramOf text options program → HasStopped fault (chosen options) text
+    ensures stopped { IfErr result (λ fault. (o : Chosen) (text : List ℕ) → IsFilterOf o text filter.now → HasStopped fault o text
         (streams_of R.remaining O.contents E.contents input.old output.old errors.old) (streams_of R.remaining O.contents E.contents input.new output.new errors.new)) }
     ensures read_failed { IfErr result (λ fault. fault ≡ ReadFault → HasFailed (failures_of input.old) (failures_of input.new)) }
     ensures write_failed { IfErr result (λ fault. fault ≡ WriteFault → AnOutputHasFailed (output_failures output.old errors.old) (output_failures output.new errors.new)) }
-    ensures unread { (text : List ℕ) → IsProgramOf text options program → ¬ (FilterNeedsInput (chosen options) text) → input.new ≡ input.old }
+    ensures unread { (o : Chosen) (text : List ℕ) → IsFilterOf o text filter.now → ¬ (FilterNeedsInput o text) → input.new ≡ input.old }
 {
-    let prepared = prepare(alloc, program, options)?;
-    let runner = Runner {
-        tree: &prepared.tree,
-        bindings: &prepared.bindings,
-        depth: prepared.depth,
-    };
-    run_stream(
-        alloc,
-        &runner,
-        prepared.settings,
-        starts,
-        input,
-        output,
-        errors,
-    )
+    let runner = filter.runner();
+    let settings = filter.settings();
+    run_stream(alloc, &runner, settings, starts, input, output, errors)
 }
