@@ -196,7 +196,7 @@ memory_stopped : (r : Result ℕ StreamFault) (p : Filter) (values : List Value)
 memory_stopped r p values stop follow remaining output old new before after plans is low run fault same =
     let kept : Appends old new [] = subst (λ e. Appends old e []) (sym same) (Appends-nil old) in
     subst (λ q. IfErr q (λ x. (files : Option (List ℕ)) (o : Chosen) (text : List ℕ) → HaveTexts files values stop → IsFilterOf o text p
-        → IsSessionStopped x files follow o text (stage (streams remaining output old) before) (stage (streams remaining output new) after))) (sym fault)
+    → IsSessionStopped x files follow o text (stage (streams remaining output old) before) (stage (streams remaining output new) after))) (sym fault)
     (λ files o text texts h. inr (inr (inr (refl, runs_out files o text values stop p before after plans h run texts is low, (Appends-nil output, kept), refl))))
 
 -- what was refused for each reason
@@ -230,8 +230,8 @@ pub session_served : (r : Result ℕ StreamFault) (p : Filter) (vs : List Val) (
     → IfOk r (λ answer. (files : Option (List ℕ)) (o : Chosen) (text : List ℕ) → HaveTexts files (map view vs) stop → IsFilterOf o text p
     → IsSessionDone files follow o text (stage (streams remaining output errors) before) (stage (streams remaining_new output_new errors) counted) answer)
 session_served r p vs stop follow remaining output errors remaining_new output_new before begun counted first plans is same low run h = if_ok_map r h (λ answer answered files o text texts k. inl (
-    serves files o text (map view vs) stop (stage (streams remaining output errors) before) (streams remaining_new output_new errors) p begun first answered.1 counted (script.IsServed follow) plans k same run texts is (room_in vs low) refl answered.2,
-    answered.0,
+  serves files o text (map view vs) stop (stage (streams remaining output errors) before) (streams remaining_new output_new errors) p begun first answered.1 counted (script.IsServed follow) plans k same run texts is (room_in vs low) refl answered.2,
+  answered.0,
 ))
 
 pub session_cut_off : (r : Result ℕ StreamFault) (p : Filter) (vs : List Val) (stop : Option Fault) (follow : Bool) (remaining output errors remaining_new output_new : Option (List ℕ)) (before begun counted : ℕ) (first : State)
@@ -241,8 +241,8 @@ pub session_cut_off : (r : Result ℕ StreamFault) (p : Filter) (vs : List Val) 
     → IsSessionStopped f files follow o text (stage (streams remaining output errors) before) (stage (streams remaining_new output_new errors) counted))
 session_cut_off r p vs stop follow remaining output errors remaining_new output_new before begun counted first plans is same low run h = if_err_map r h (λ f stopped files o text texts k. inl (
     serves files o text (map view vs) stop (stage (streams remaining output errors) before) (streams remaining_new output_new errors) p begun first stopped.0 counted
-        (λ a b. script.IsStopped follow f a b × script.IsOnePass follow a b) plans k same run texts is (room_in vs low) refl (stopped.1, stopped.2)
-))
+    (λ a b. script.IsStopped follow f a b × script.IsOnePass follow a b) plans k same run texts is (room_in vs low) refl (stopped.1, stopped.2)
+    ))
 
 -- ---- the status of a session
 

@@ -69,7 +69,7 @@ pub record Serves (files : Option (List ℕ)) (o : Chosen) (text : List ℕ) (ol
   pub first_run : IsFirstRun (first_state mode job plan found.values) old.starts begun
   pub last : State
   pub served : Served (serving old.streams.remaining old.streams.outputs.output (point (first_state mode job plan found.values) begun))
-    (serving new.streams.remaining new.streams.outputs.output (point last new.starts))
+      (serving new.streams.remaining new.streams.outputs.output (point last new.starts))
   pub unreported : old.streams.outputs.errors ≡ new.streams.outputs.errors
 
 -- Memory ran out in the first runs, which start the filter no more often than those of a session that is served.

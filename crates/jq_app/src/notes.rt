@@ -166,10 +166,7 @@ fn nearest(alloc: Global, name: &str, end: &str) -> Result<Option<&'static str>,
 }
 
 // The file that could not be read, and the system's reason.
-fn file_note<O: Opener>(
-    alloc: Global,
-    files: &Watched<FileReader<'_, O>>,
-) -> Option<String> {
+fn file_note<O: Opener>(alloc: Global, files: &Watched<FileReader<'_, O>>) -> Option<String> {
     let name = files.device().name()?;
     cause_note(alloc, name, files.error())
 }

@@ -131,7 +131,8 @@ fn serve_session<R: Read, O: Write>(
 {
     let mut session = session;
     let served = serve(alloc, follow, &mut session, input, output);
-    (status_of(served), session.into_starts())
+    let starts = session.into_starts();
+    (status_of(served), starts)
 }
 
 // The status of a session that was served.

@@ -14,7 +14,7 @@ returns-clause-served g c =
     let output = g.O.Write.contents (device_of c.serve-served.new.output) in
     let last = state_of c.serve-served.new.session in
     ok_status c.serve-served.result c.status_of.result _ _ c.status_of.ensures.ok c.status_of.ensures.err c.serve-served.ensures.served
-    (λ served. (refl, last, subst (λ n. script.IsServed c.args.follow old (script.serving remaining output (point last n))) (sym c.into_starts.ensures) served))
+    (λ served. (refl, last, subst (λ n. script.IsServed c.args.follow old (script.serving remaining output (point last n))) (sym c.into_starts-starts.ensures) served))
 
 pub returns-clause-stopped : goal.returns-clause-stopped
 returns-clause-stopped g c =
@@ -25,8 +25,8 @@ returns-clause-stopped g c =
     err_status c.serve-served.result c.status_of.result _ c.status_of.ensures.ok c.status_of.ensures.err
     (if_err_map c.serve-served.result (on_fault c.serve-served.result c.serve-served.ensures.stopped c.serve-served.ensures.one_pass) (λ f both. (
       last,
-      subst (λ n. script.IsStopped c.args.follow f old (script.serving remaining output (point last n))) (sym c.into_starts.ensures) both.0,
-      subst (λ n. script.IsOnePass c.args.follow old (script.serving remaining output (point last n))) (sym c.into_starts.ensures) both.1,
+      subst (λ n. script.IsStopped c.args.follow f old (script.serving remaining output (point last n))) (sym c.into_starts-starts.ensures) both.0,
+      subst (λ n. script.IsOnePass c.args.follow old (script.serving remaining output (point last n))) (sym c.into_starts-starts.ensures) both.1,
     )))
 
 pub returns-clause-read_failed : goal.returns-clause-read_failed
