@@ -48,16 +48,17 @@ refused_in r o text f is memory other = elim (refused_or_memory o text f is) [ i
 
 -- ---- in place of a run
 
-pub filter_refused : (r : Result ℕ StreamFault) (o : Chosen) (text : List ℕ) (f : CompileFault) (old new : Streams) → IsRefusal text (setting o) f → (f ≡ NoMemory → r ≡ Err fault.NoMemory)
+pub filter_refused : (r : Result ℕ StreamFault) (o : Chosen) (text : List ℕ) (f : CompileFault) (old new : Streams) → old.remaining ≡ new.remaining → IsRefusal text (setting o) f → (f ≡ NoMemory → r ≡ Err fault.NoMemory)
     → IfOk r (λ answer. IsAnswered (filter_refusal f) old.outputs new.outputs answer) → IfOk r (λ answer. IsFilterDone o text old new answer)
-filter_refused (Ok answer) o text f old new is memory h = inr (filter_refusal f, refused_in (Ok answer) o text f is memory (answer_is_no_fault answer fault.NoMemory (Ok answer) refl), h)
-filter_refused (Err x) o text f old new is memory h = tt
+filter_refused (Ok answer) o text f old new unread is memory h =
+    inr (unread, filter_refusal f, refused_in (Ok answer) o text f is memory (answer_is_no_fault answer fault.NoMemory (Ok answer) refl), h)
+filter_refused (Err x) o text f old new unread is memory h = tt
 
-pub filter_refusal_stopped : (r : Result ℕ StreamFault) (o : Chosen) (text : List ℕ) (f : CompileFault) (old new : Streams) → IsRefusal text (setting o) f → (f ≡ NoMemory → r ≡ Err fault.NoMemory)
-    → IfErr r (λ x. IsWritingStopped x (filter_refusal f) old new) → IfErr r (λ x. IsFilterStopped x o text old new)
-filter_refusal_stopped (Ok answer) o text f old new is memory h = tt
-filter_refusal_stopped (Err x) o text f old new is memory h = elim h [
-  | inl w ↦ inr (filter_refusal f, refused_in (Err x) o text f is memory (write_is_no_memory x (Err x) refl w.1), w.0, w.1)
+pub filter_refusal_stopped : (r : Result ℕ StreamFault) (o : Chosen) (text : List ℕ) (f : CompileFault) (old new : Streams) → old.remaining ≡ new.remaining → IsRefusal text (setting o) f
+    → (f ≡ NoMemory → r ≡ Err fault.NoMemory) → IfErr r (λ x. IsWritingStopped x (filter_refusal f) old new) → IfErr r (λ x. IsFilterStopped x o text old new)
+filter_refusal_stopped (Ok answer) o text f old new unread is memory h = tt
+filter_refusal_stopped (Err x) o text f old new unread is memory h = elim h [
+  | inl w ↦ inr (unread, filter_refusal f, refused_in (Err x) o text f is memory (write_is_no_memory x (Err x) refl w.1), w.0, w.1)
   | inr n ↦ inl (inr n)
 ]
 

@@ -49,16 +49,17 @@ pub data IsRefusedFilter (o : Chosen) (text : List ℕ) : Outcome → Type 0 whe
 abbrev pub IsAnswered : Outcome → (old new : Outputs) → ℕ → Type 0
 IsAnswered outcome old new answer = Writes outcome old new × (answer ≡ outcome.status)
 
--- The filter ran, or the reason why it is refused was written.
+-- The filter ran; or nothing was read, and the reason why it is refused was written.
 abbrev pub IsFilterDone : Chosen → List ℕ → (old new : Streams) → ℕ → Type 0
 IsFilterDone o text old new answer =
-    HasRun o text old new answer ⊎ ((outcome : Outcome) × IsRefusedFilter o text outcome × IsAnswered outcome old.outputs new.outputs answer)
+    HasRun o text old new answer
+    ⊎ ((old.remaining ≡ new.remaining) × (outcome : Outcome) × IsRefusedFilter o text outcome × IsAnswered outcome old.outputs new.outputs answer)
 
--- A fault stopped the runs, or the report of the reason why the filter is refused; or memory ran out before.
+-- A fault stopped the runs; or nothing was read, and a fault stopped the report of the reason why the filter is refused; or memory ran out before.
 abbrev pub IsFilterStopped : StreamFault → Chosen → List ℕ → (old new : Streams) → Type 0
 IsFilterStopped f o text old new =
     HasStopped f o text old new
-    ⊎ ((outcome : Outcome) × IsRefusedFilter o text outcome × WritesFirst outcome old.outputs new.outputs × (f ≡ fault.Write))
+    ⊎ ((old.remaining ≡ new.remaining) × (outcome : Outcome) × IsRefusedFilter o text outcome × WritesFirst outcome old.outputs new.outputs × (f ≡ fault.Write))
 
 -- The filter is accepted, and it runs on inputs.
 abbrev pub FilterNeedsInput : Chosen → List ℕ → Type 0

@@ -1,4 +1,4 @@
-use Rattle.std.proofs.Common.{inl, inr}
+use Rattle.std.proofs.Common.{inl, inr, refl}
 use Rattle.std.specs.Str.{chars}
 use Rattle.jq_devices.specs.Watched.{device_of}
 use Rattle.jq_stream.specs.Streams.{streams_of}
@@ -13,13 +13,15 @@ returns-in-Err-clause-done g c =
     let f = c.in-Err.fault in
     let old = streams_of g.R.Read.remaining g.O.Write.contents g.E.Write.contents c.args.input.now c.args.output.now c.args.errors.now in
     let new = streams_of g.R.Read.remaining g.O.Write.contents g.E.Write.contents c.args.input.now c.args.output.now c.refuse_filter.new.errors in
-    filter_refused c.refuse_filter.result (chosen c.args.options) (chars c.args.filter.now) f old new c.in-Err.ensures.refused c.refuse_filter.ensures.memory
+    filter_refused c.refuse_filter.result (chosen c.args.options) (chars c.args.filter.now) f old new refl c.in-Err.ensures.refused c.refuse_filter.ensures.memory
     (report_answered c.refuse_filter.result (filter_refusal f).errors 3 (g.O.Write.contents (device_of c.args.output.now)) _ _ c.refuse_filter.ensures.report)
 
 pub returns-in-Err-clause-stopped : goal.returns-in-Err-clause-stopped
 returns-in-Err-clause-stopped g c =
     let f = c.in-Err.fault in
-    filter_refusal_stopped c.refuse_filter.result (chosen c.args.options) (chars c.args.filter.now) f _ _ c.in-Err.ensures.refused c.refuse_filter.ensures.memory
+    let old = streams_of g.R.Read.remaining g.O.Write.contents g.E.Write.contents c.args.input.now c.args.output.now c.args.errors.now in
+    let new = streams_of g.R.Read.remaining g.O.Write.contents g.E.Write.contents c.args.input.now c.args.output.now c.refuse_filter.new.errors in
+    filter_refusal_stopped c.refuse_filter.result (chosen c.args.options) (chars c.args.filter.now) f old new refl c.in-Err.ensures.refused c.refuse_filter.ensures.memory
     (report_stopped c.refuse_filter.result (filter_refusal f).errors 3 (g.R.Read.remaining (device_of c.args.input.now)) (g.O.Write.contents (device_of c.args.output.now)) _ _ c.refuse_filter.ensures.report)
 
 pub returns-in-Err-clause-read_failed : goal.returns-in-Err-clause-read_failed
