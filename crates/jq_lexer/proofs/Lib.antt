@@ -8,3 +8,4 @@ pub mod Pieces
 pub mod Texts
 pub mod Readings
 pub mod Taking
+pub mod Placing

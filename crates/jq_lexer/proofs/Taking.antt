@@ -15,6 +15,7 @@ use Rattle.jq_tree.proofs.shared.Valueless.{no_token_there}
 use Rattle.jq_lexer.specs.private.Found.{IsWordAt, NoWordAt, Stands}
 use Rattle.jq_lexer.specs.private.Spots.{parenthesis_of, parentheses_of, tokens_of, spot_of, taken_by, spot_after, Takes, Keeps, AnswersLexed, TakesPiece, NoPiece, AnswersPiece, IsFirstPiece, IsWordStart}
 use Rattle.jv_meaning.specs.Text.{text_of}
+use Rattle.jq_lexer.specs.Places.{Begins, at_word, at_piece}
 use Rattle.jq_lexer.specs.Views.{token_of}
 use Rattle.jq_lexer.specs.declared.lexing.Parenthesis.{Parenthesis}
 use Rattle.jq_lexer.specs.declared.lexing.Parenthesis.TheVariants.{Plain, InString}
@@ -51,6 +52,7 @@ takes_next old new ts e f n s = record {
   taken = map token_of ts;
   tokens = tokens_more old new ts f;
   reads = subst (λ (spot : Spot). Reads spot old.rest.now (map token_of ts) (spot_of new) new.rest.now) (sym (spot_between old e)) (reads_one n);
+  begins = λ _. subst (λ (spot : Spot). Begins spot old.rest.now (map token_of ts)) (sym (spot_between old e)) (at_word n);
   shorter = s;
 }
 
@@ -190,6 +192,7 @@ part_answers old new lexed.Taken e d = record {
   taken = d.taken;
   tokens = d.tokens;
   reads = subst (λ (p : Spot). Reads p old.rest.now d.taken (spot_of new) new.rest.now) (sym (spot_within old e)) (reads_part d.piece);
+  begins = λ _. subst (λ (p : Spot). Begins p old.rest.now d.taken) (sym (spot_within old e)) (at_piece d.piece);
   shorter = d.shorter;
 }
 part_answers old new lexed.Missing e d = (d.0, subst (λ (p : Spot). Missing p old.rest.now) (sym (spot_within old e)) (no_piece (d.1)))
@@ -214,6 +217,8 @@ quote_takes old new text e f d = record {
   taken = d.taken;
   tokens = d.tokens;
   reads = subst (λ (p : Spot). Reads p old.rest.now d.taken (spot_of new) new.rest.now) (sym (spot_between old e)) (quote_reads (parentheses_of old) text old.rest.now new.rest.now d.taken (spot_of new) f d.piece);
+  begins = λ _. subst (λ (p : Spot). Begins p old.rest.now d.taken) (sym (spot_between old e))
+      (subst (λ (x : List ℕ). Begins (between (parentheses_of old)) x d.taken) (sym f) (at_word (quote d.piece)));
   shorter = after_quote new.rest.now text old.rest.now f d.shorter;
 }
 
@@ -231,6 +236,7 @@ passes old new e f d s = record {
   taken = [];
   tokens = e ∙ sym (append-nil (tokens_of old));
   reads = subst (λ (p : Spot). Reads (spot_of old) old.rest.now [] p new.rest.now) (sym f) d;
+  begins = λ k. absurd (k refl);
   shorter = s;
 }
 

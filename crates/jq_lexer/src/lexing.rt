@@ -1,8 +1,9 @@
 // Splitting a text into its tokens.
-ghost use Rattle.std.specs.Prelude.{◌≡◌, ◌∷◌, ◌≤◌, length, map, IfOk, IfErr};
+ghost use Rattle.std.specs.Prelude.{◌≡◌, ◌∷◌, ◌≤◌, length, map, IfOk, IfErr, MatchOption};
 ghost use Rattle.std.specs.List.{prefix_len};
 ghost use Rattle.std.specs.Str.{chars};
 ghost use Rattle.jq_tree.specs.Lexing.{is_not_line_feed, is_space, Lexes};
+ghost use Rattle.jq_lexer.specs.Places.{TokenAt, HasAtMost};
 ghost use Rattle.jq_lexer.specs.Views.{token_of, HasFault};
 
 use crate::faults::LexFault;
@@ -10,6 +11,7 @@ use crate::places::byte_count;
 use crate::strings::{Piece, first_piece};
 use crate::tokens::{Symbol, Token};
 use crate::words::{first_word, token_of};
+use jq_tree::lexing::one_reading;
 use std::alloc::{AllocError, Global};
 
 /// The tokens of a filter's text (manual of jq 1.7, "Basic filters", "Comments", "String interpolation"; RFC 8259, section 7).
@@ -30,6 +32,31 @@ pub fn lex(alloc: Global, filter: &str) -> Result<Vec<Token>, LexFault>
                 return Err(LexFault::BadToken { at });
             }
             Lexed::Done => return Ok(lexer.tokens),
+        }
+    }
+}
+
+/// The byte at which a token begins, found by the number of tokens before it. None if the text has no such token.
+pub fn place_of_token(
+    alloc: Global,
+    filter: &str,
+    number: usize,
+) -> Result<Option<usize>, AllocError>
+    ensures { IfOk result (λ o. MatchOption o (HasAtMost (chars filter.now) number) (TokenAt (chars filter.now) number)) }
+{
+    one_reading();
+    let characters = characters(alloc, filter)?;
+    let mut lexer = Lexer::new(alloc, &characters);
+    loop {
+        let left = lexer.rest.len();
+        match lexer.take(alloc)? {
+            Lexed::Taken => {}
+            Lexed::Missing => return Ok(None),
+            Lexed::Done => return Ok(None),
+        }
+        if lexer.tokens.len() > number {
+            let read = characters.len() - left;
+            return Ok(Some(byte_count(&characters[..read])));
         }
     }
 }

@@ -1,6 +1,6 @@
 //! The tokens of a filter's text, or where the first bad one begins.
 //!
-//! Entry: `lex`. Tests: `tests/refusals.toml`, `jq_tests`.
+//! Entry: `lex`; `place_of_token` says where a token begins. Tests: `tests/refusals.toml`, `jq_tests`.
 #![tactic(auto)]
 
 mod faults;
@@ -13,6 +13,6 @@ mod tokens;
 mod words;
 
 pub use faults::LexFault;
-pub use lexing::lex;
+pub use lexing::{lex, place_of_token};
 pub use spellings::keyword_text;
 pub use tokens::{Keyword, Natural, Symbol, Token};

@@ -63,17 +63,13 @@ impl Parser {
         ensures frames { OnOk result (self.new.frames ≡ self.old.frames) }
         ensures value { MatchResult result (λ p. f.parameter (ahead self.old) ≡ Some (parameter_of p, ahead self.new)) (λ e. e ≡ Syntax → f.parameter (ahead self.old) ≡ None) }
     {
-        match self.tokens.pop_front() {
-            Some(Token::Name(name)) => Ok(Parameter::Filter(name)),
-            Some(Token::Variable(name)) => Ok(Parameter::Value(name)),
-            Some(Token::Keyword(_)) => Err(ParseFault::Syntax),
-            Some(Token::Field(_)) => Err(ParseFault::Syntax),
-            Some(Token::Format(_)) => Err(ParseFault::Syntax),
-            Some(Token::Number(_)) => Err(ParseFault::Syntax),
-            Some(Token::Piece(_)) => Err(ParseFault::Syntax),
-            Some(Token::Interpolation) => Err(ParseFault::Syntax),
-            Some(Token::Symbol(_)) => Err(ParseFault::Syntax),
-            None => Err(ParseFault::Syntax),
+        let Some(token) = self.tokens.pop_front() else {
+            return Err(ParseFault::Syntax);
+        };
+        match token {
+            Token::Name(name) => Ok(Parameter::Filter(name)),
+            Token::Variable(name) => Ok(Parameter::Value(name)),
+            other => Err(self.refused(other)),
         }
     }
 }

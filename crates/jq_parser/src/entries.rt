@@ -165,9 +165,8 @@ impl Parser {
             )),
             Token::Symbol(symbol) => self.symbol_entry(entries, symbol),
             other => {
-                drop(other);
                 drop(entries);
-                Err(ParseFault::Syntax)
+                Err(self.refused(other))
             }
         }
     }
@@ -205,7 +204,7 @@ impl Parser {
                 self.wait(Frame::Object(ObjectFrame::EntryKey(entries)))?;
                 Ok(Mode::WantPipe(None))
             }
-            _ => Err(ParseFault::Syntax),
+            other => Err(self.refused(Token::Symbol(other))),
         }
     }
 

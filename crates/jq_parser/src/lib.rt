@@ -1,6 +1,6 @@
 //! The tokens of a filter and its tree: tokens have at most one tree, and `parse` finds it.
 //!
-//! Entry: `parse`. Tests: `tests/refusals.toml`.
+//! Entry: `parse`; `place_of_refusal` says where tokens that are no filter are refused. Tests: `tests/refusals.toml`.
 #![tactic(auto)]
 
 mod definitions;
@@ -18,4 +18,4 @@ mod turns;
 mod waiting;
 
 pub use faults::ParseFault;
-pub use parsing::parse;
+pub use parsing::{parse, place_of_refusal};

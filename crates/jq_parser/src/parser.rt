@@ -96,6 +96,14 @@ impl Parser {
         Ok(())
     }
 
+    /// The fault of a token that must not be next. It is put back, so that the tokens that are left begin with it.
+    pub fn refused(&mut self, token: Token) -> ParseFault {
+        match self.put_back(token) {
+            Ok(()) => ParseFault::Syntax,
+            Err(e) => e,
+        }
+    }
+
     pub fn wait(&mut self, frame: Frame) -> Result<(), ParseFault>
         ensures ok { OnOk result (waiting self.new ≡ frame_of frame ∷ waiting self.old) }
         ensures ahead { ahead self.new ≡ ahead self.old }
@@ -163,6 +171,26 @@ impl Parser {
         }
     }
 
+    fn begins_with_name(&self) -> bool
+        ensures { result ≡ is_name (first (ahead self.now)) }
+    {
+        match self.tokens.front() {
+            Some(Token::Name(_)) => true,
+            Some(_) => false,
+            None => false,
+        }
+    }
+
+    fn begins_with_variable(&self) -> bool
+        ensures { result ≡ is_variable (first (ahead self.now)) }
+    {
+        match self.tokens.front() {
+            Some(Token::Variable(_)) => true,
+            Some(_) => false,
+            None => false,
+        }
+    }
+
     pub fn begins_with_as(&self) -> bool
         ensures { result ≡ is_as (first (ahead self.now)) }
     {
@@ -201,11 +229,14 @@ impl Parser {
         }
     }
 
-    /// Takes the next token, which must be a name. None if it is another one.
+    /// Takes the next token if it is a name.
     pub fn name(&mut self) -> Option<String>
         ensures taken { MatchOption result (is_name (first (ahead self.old)) ≡ false) (λ s. ahead self.old ≡ token.name (text_of s) ∷ ahead self.new) }
         ensures frames { self.new.frames ≡ self.old.frames }
     {
+        if !self.begins_with_name() {
+            return None;
+        }
         match self.tokens.pop_front() {
             Some(Token::Name(text)) => Some(text),
             Some(Token::Keyword(_)) => None,
@@ -220,11 +251,14 @@ impl Parser {
         }
     }
 
-    /// Takes the next token, which must be a variable. None if it is another one.
+    /// Takes the next token if it is a variable.
     pub fn variable(&mut self) -> Option<String>
         ensures taken { MatchOption result (is_variable (first (ahead self.old)) ≡ false) (λ s. ahead self.old ≡ token.variable (text_of s) ∷ ahead self.new) }
         ensures frames { self.new.frames ≡ self.old.frames }
     {
+        if !self.begins_with_variable() {
+            return None;
+        }
         match self.tokens.pop_front() {
             Some(Token::Variable(text)) => Some(text),
             Some(Token::Keyword(_)) => None,
@@ -239,11 +273,14 @@ impl Parser {
         }
     }
 
-    /// Takes the next token, which must be a piece of a string. None if it is another one.
+    /// Takes the next token if it is a piece of a string.
     pub fn piece(&mut self) -> Option<String>
         ensures taken { MatchOption result (is_piece (first (ahead self.old)) ≡ false) (λ s. ahead self.old ≡ token.piece (text_of s) ∷ ahead self.new) }
         ensures frames { self.new.frames ≡ self.old.frames }
     {
+        if !self.begins_with_piece() {
+            return None;
+        }
         match self.tokens.pop_front() {
             Some(Token::Piece(text)) => Some(text),
             Some(Token::Keyword(_)) => None,
@@ -258,11 +295,14 @@ impl Parser {
         }
     }
 
-    /// Takes the next token, which must be a field. None if it is another one.
+    /// Takes the next token if it is a field.
     pub fn field(&mut self) -> Option<String>
         ensures taken { MatchOption result (is_field (first (ahead self.old)) ≡ false) (λ s. ahead self.old ≡ token.field (text_of s) ∷ ahead self.new) }
         ensures frames { self.new.frames ≡ self.old.frames }
     {
+        if !self.begins_with_field() {
+            return None;
+        }
         match self.tokens.pop_front() {
             Some(Token::Field(text)) => Some(text),
             Some(Token::Keyword(_)) => None,

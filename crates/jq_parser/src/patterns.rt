@@ -78,9 +78,8 @@ impl Parser {
             Token::Piece(piece) => self.begin_text(TextUse::PartKey(members), piece),
             Token::Symbol(symbol) => self.symbol_member(members, symbol),
             other => {
-                drop(other);
                 drop(members);
-                Err(ParseFault::Syntax)
+                Err(self.refused(other))
             }
         }
     }
@@ -110,7 +109,7 @@ impl Parser {
                 self.wait(Frame::Object(ObjectFrame::MemberKey(members)))?;
                 Ok(Mode::WantPipe(None))
             }
-            _ => Err(ParseFault::Syntax),
+            other => Err(self.refused(Token::Symbol(other))),
         }
     }
 

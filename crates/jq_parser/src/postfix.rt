@@ -33,7 +33,7 @@ impl Parser {
                 boxed(self.alloc, Tree::Variable(unresolved(name))),
             ),
             Some(Token::Name(name)) => self.call(name),
-            Some(Token::Interpolation) => Err(ParseFault::Syntax),
+            Some(Token::Interpolation) => Err(self.refused(Token::Interpolation)),
             None => Err(ParseFault::Syntax),
         }
     }
@@ -64,7 +64,7 @@ impl Parser {
             }
             Symbol::LeftBracket => self.array(),
             Symbol::LeftBrace => self.object(),
-            _ => Err(ParseFault::Syntax),
+            other => Err(self.refused(Token::Symbol(other))),
         }
     }
 
@@ -86,7 +86,7 @@ impl Parser {
                 self.wait(Frame::Block(BlockFrame::BranchTest(Vec::new(self.alloc))))?;
                 Ok(Mode::WantPipe(None))
             }
-            _ => Err(ParseFault::Syntax),
+            other => Err(self.refused(Token::Keyword(other))),
         }
     }
 

@@ -8,3 +8,4 @@ mod Nesting
 mod Outcomes
 mod PreludeText
 pub mod Halting
+mod Refused

@@ -3,7 +3,7 @@
 //! `options` are those of one command. `prelude_laws` shows that the prelude is accepted, with the tree that the prover computes
 //! from its text.
 //!
-//! Entry: `compile`. Tests: `tests/refusals.toml`, `jq_tests`.
+//! Entry: `compile`; `place_of_syntax_error` says where a text is refused for its syntax. Tests: `tests/refusals.toml`, `jq_tests`.
 #![tactic(auto)]
 
 mod compiling;
@@ -15,8 +15,10 @@ mod prelude;
 pub mod prelude_laws;
 mod program;
 mod reading;
+mod syntax_places;
 
 pub use compiling::compile;
 pub use faults::CompileFault;
 pub use options::Options;
 pub use program::Program;
+pub use syntax_places::{SyntaxPlace, place_of_syntax_error};

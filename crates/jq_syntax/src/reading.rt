@@ -25,7 +25,7 @@ pub(crate) fn read_filter(alloc: Global, text: &str) -> Result<Box<Tree>, Compil
     tree_of(alloc, tokens)
 }
 
-fn tokens_within(alloc: Global, text: &str) -> Result<Vec<Token>, CompileFault>
+pub(crate) fn tokens_within(alloc: Global, text: &str) -> Result<Vec<Token>, CompileFault>
     ensures tokens { IfOk result (λ ts. Within (chars text.now) (map token_of ts.items)) }
     ensures fault { IfErr result (IsNotWithin (chars text.now)) }
 {

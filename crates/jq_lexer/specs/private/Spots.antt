@@ -4,6 +4,7 @@ use Rattle.jq_tree.specs.Token as token
 use Rattle.jq_tree.specs.Lexing as lexing
 use Rattle.jq_tree.specs.Lexing.{is_space, Spot, between, within, Reads}
 use Rattle.jv_meaning.specs.Text.{text_of}
+use Rattle.jq_lexer.specs.Places.{Begins}
 use Rattle.jq_lexer.specs.Views.{token_of}
 use Rattle.jq_lexer.specs.declared.lexing.Parenthesis.{Parenthesis}
 use Rattle.jq_lexer.specs.declared.lexing.Parenthesis.TheVariants.{Plain, InString}
@@ -31,6 +32,7 @@ pub record Takes (old new : Lexer) : Type 0 where
   pub taken : List token.Token
   pub tokens : tokens_of new ≡ tokens_of old ++ taken
   pub reads : Reads (spot_of old) old.rest.now taken (spot_of new) new.rest.now
+  pub begins : taken ≢ [] → Begins (spot_of old) old.rest.now taken
   pub shorter : length new.rest.now < length old.rest.now
 
 -- Nothing was taken.

@@ -1,165 +1,102 @@
-use Rattle.std.proofs.Common.{◌≡◌, ℕ, ◌∙◌, ◌+◌, ◌-◌, ◌≤◌, ◌<◌, List, length, take, get_or, ap, sym, subst, arith}
-use Rattle.std.proofs.Math.Logic.{∥∥₁_map}
-use Rattle.jq_pages.specs.private.Reruns.{count_in}
+use Rattle.std.proofs.Common.{◌≡◌, ℕ, ◌+◌, ◌<◌, ◌≤◌, length, take, get_or, ap, sym, ◌∙◌, subst, arith}
+use Rattle.std.proofs.Math.Logic.{∥∥₁_elim, ∥∥₁_map}
 use Rattle.jq_pages.specs.private.Groups.{IsIndex}
+use Rattle.jq_pages.specs.private.Pages.{all_inputs, IsSized}
+use Rattle.jq_pages.specs.private.Reruns.{Holds}
 use Rattle.jq_pages.specs.declared.page.Page.{Page}
-use Rattle.jq_pages.proofs.Applied.{opened_inputs, opened_sized, place_after, page_small}
-use Rattle.jq_pages.proofs.Applied.{opened_pieces}
-use Rattle.jq_pages.proofs.Edits.{same_default}
-use Rattle.jq_pages.proofs.Filled.{filled_but, opened_but, halved_filled}
-use Rattle.jq_pages.proofs.Divided.{opened_holds, halved_inputs, halved_holds, halved_sized, halved_later, halved_within, halved_fits, later_within, later_fits, later_rise, halved_pieces, full_place}
-use Rattle.jq_pages.proofs.Groups.{index_put}
+use Rattle.jq_pages.proofs.Filled.{dropped_filled, dropped_holds, dropped_inputs, dropped_sized, same_pieces}
+use Rattle.jq_pages.proofs.Parts.{parts_at, parts_but, parts_count, parts_holds, parts_index, parts_inputs, parts_length, parts_pieces, parts_sized, parts_take}
+use Rattle.jq_pages.proofs.Sets.{sets}
 use Rattle.jq_pages.proofs.rooms.make_room.Goals as goal
-use Rattle.jq_pages.proofs.rooms.make_room.Goals.{In_ok-split_page, After-cut_groups-2}
+use Rattle.jq_pages.proofs.rooms.make_room.Goals.{After-reserve_in}
 
-full : (n m i : ℕ) → n ≡ m → 64 ≤ n → m ≤ 64 → i + 1 ≡ 64 → m ≡ i + 1
-full n m i a b c d = omega arith
+page : (g : _) (c : After-reserve_in g) → c.in_ok-j.j < length c.reserve_in.new.pages.items
+page g c = subst (λ n. c.in_ok-j.j < n) (sym (parts_length c.find_room.new.pages.items c.reserve_in.new.pages.items c.reserve_in.ensures.same)) c.in_ok-j.ensures.page
 
-some : (k : ℕ) → ¬ (k ≡ 0) → 0 < k
-some k n = omega arith
+inputs : (g : _) (c : After-reserve_in g) → all_inputs c.reserve_in.new.pages.items ≡ all_inputs c.args.pages.now.items
+inputs g c = parts_inputs c.find_room.new.pages.items c.reserve_in.new.pages.items c.reserve_in.ensures.same ∙ c.in_ok-j.ensures.inputs
 
-half : (n m : ℕ) → n ≡ m → 64 ≤ n → 32 ≤ m
-half n m a b = omega arith
+holds : (g : _) (c : After-reserve_in g) → ∥ Holds g.S.Steps.seen (g.S.Steps.fold c.args.steps.now) (g.S.Steps.seen c.args.first.now) c.reserve_in.new.pages.items ∥₁
+holds g c = ∥∥₁_map c.in_ok-j.ensures.holds (λ h. parts_holds g.S.Steps.seen (g.S.Steps.fold c.args.steps.now) (g.S.Steps.seen c.args.first.now) c.find_room.new.pages.items c.reserve_in.new.pages.items c.reserve_in.ensures.same h)
 
-pub returns-in_ok-open_page-clause-holds : goal.returns-in_ok-open_page-clause-holds
-returns-in_ok-open_page-clause-holds g c = let x = c.in_ok-open_page.ensures.pages in ∥∥₁_map c.requires.holds (λ h. opened_holds g.S.Steps.seen _ _ c.args.pages.now.items c.open_page.new.pages.items _ x h)
+sized : (g : _) (c : After-reserve_in g) → ∥ IsSized c.reserve_in.new.pages.items ∥₁
+sized g c = ∥∥₁_map c.in_ok-j.ensures.sized (λ h. parts_sized c.find_room.new.pages.items c.reserve_in.new.pages.items c.reserve_in.ensures.same h)
 
-pub returns-in_ok-open_page-clause-sized : goal.returns-in_ok-open_page-clause-sized
-returns-in_ok-open_page-clause-sized g c = let x = c.in_ok-open_page.ensures.pages in ∥∥₁_map c.requires.sized (λ h. opened_sized g.S.Steps.seen _ c.args.pages.now.items c.open_page.new.pages.items _ x h)
+index : (g : _) (c : After-reserve_in g) → IsIndex c.find_room.new.groups.items c.reserve_in.new.pages.items
+index g c = parts_index c.find_room.new.groups.items c.find_room.new.pages.items c.reserve_in.new.pages.items c.reserve_in.ensures.same c.in_ok-j.ensures.index
 
-pub returns-then-has_room-clause-place : goal.returns-then-has_room-clause-place
-returns-then-has_room-clause-place g c =
-    let ps = c.args.pages.now.items in
-    let j = c.find-j.result.0 in
-    let p = c.index-2.result.now in
-    let l : j < length ps = subst (λ (z : List _). j < length z) c.deref-2.ensures.value c.find-j.ensures.page in
-    let n : length p.inputs.items ≤ 64 = subst (λ z. length z.inputs.items ≤ 64) (sym c.index-2.ensures) (page_small ps j p l c.requires.sized) in
-    full_place ps j c.find-j.result.1 c.args.k p l c.index-2.ensures
-    (full _ _ _ (c.len-2.ensures ∙ p.inputs.ok.0) c.if-len-lt-MOST_IN_PAGE.false n c.if-i-eq-MOST_IN_PAGE.true)
-    (ap (λ z. count_in (take j z) + c.find-j.result.1) (sym c.deref-2.ensures.value) ∙ c.find-j.ensures.place) (some _ c.if-k-eq0.false)
+pub drop_empty-requires-clause-page : goal.drop_empty-requires-clause-page
+drop_empty-requires-clause-page g c = page g ((goal.at.drop_empty-requires-clause-page g c).After-reserve_in)
 
-pub returns-then-has_room-clause-filled : goal.returns-then-has_room-clause-filled
-returns-then-has_room-clause-filled g c h = filled_but (c.find-j.result.0 + 1) c.args.pages.now.items h
+pub drop_empty-requires-clause-index : goal.drop_empty-requires-clause-index
+drop_empty-requires-clause-index g c = index g ((goal.at.drop_empty-requires-clause-index g c).After-reserve_in)
 
-pub returns-then-i-eq-MOST_IN_PAGE-clause-place : goal.returns-then-i-eq-MOST_IN_PAGE-clause-place
-returns-then-i-eq-MOST_IN_PAGE-clause-place g c =
-    let ps = c.args.pages.now.items in
-    let j = c.find-j.result.0 in
-    let p = c.index-2.result.now in
-    let l : j < length ps = subst (λ (z : List _). j < length z) c.deref-2.ensures.value c.find-j.ensures.page in
-    let n : length p.inputs.items ≤ 64 = subst (λ z. length z.inputs.items ≤ 64) (sym c.index-2.ensures) (page_small ps j p l c.requires.sized) in
-    place_after g.S.Steps.seen (g.S.Steps.seen c.args.first.now) ps c.open_page-then-i-eq-MOST_IN_PAGE.new.pages.items j c.find-j.result.1 c.args.k p c.in_ok-open_page-2.ensures.pages l c.index-2.ensures
-    (full _ _ _ (c.len-2.ensures ∙ p.inputs.ok.0) c.if-len-lt-MOST_IN_PAGE.false n c.if-i-eq-MOST_IN_PAGE.true)
-    (ap (λ z. count_in (take j z) + c.find-j.result.1) (sym c.deref-2.ensures.value) ∙ c.find-j.ensures.place) (some _ c.if-k-eq0.false)
+pub returns-in-Ok-clause-place : goal.returns-in-Ok-clause-place
+returns-in-Ok-clause-place g c = ap (λ n. n + c.in_ok-j.i) (parts_count (take c.in_ok-j.j c.find_room.new.pages.items) (take c.in_ok-j.j c.reserve_in.new.pages.items) (parts_take c.find_room.new.pages.items c.reserve_in.new.pages.items c.in_ok-j.j c.reserve_in.ensures.same)) ∙ c.in_ok-j.ensures.place
 
-pub returns-then-i-eq-MOST_IN_PAGE-clause-inputs : goal.returns-then-i-eq-MOST_IN_PAGE-clause-inputs
-returns-then-i-eq-MOST_IN_PAGE-clause-inputs g c = let x = c.in_ok-open_page-2.ensures.pages in opened_inputs g.S.Steps.seen _ c.args.pages.now.items c.open_page-then-i-eq-MOST_IN_PAGE.new.pages.items _ x
+none : (i n m : ℕ) → m ≡ n → i ≤ n → i + 0 ≤ m
+none i n m e l = omega arith
 
-pub returns-then-i-eq-MOST_IN_PAGE-clause-holds : goal.returns-then-i-eq-MOST_IN_PAGE-clause-holds
-returns-then-i-eq-MOST_IN_PAGE-clause-holds g c = let x = c.in_ok-open_page-2.ensures.pages in ∥∥₁_map c.requires.holds (λ h. opened_holds g.S.Steps.seen _ _ c.args.pages.now.items c.open_page-then-i-eq-MOST_IN_PAGE.new.pages.items _ x h)
+more : (n m : ℕ) → m ≡ n → n + 1 ≤ 64 → m + 1 ≤ 64 + 0
+more n m e l = omega arith
 
-pub returns-then-i-eq-MOST_IN_PAGE-clause-sized : goal.returns-then-i-eq-MOST_IN_PAGE-clause-sized
-returns-then-i-eq-MOST_IN_PAGE-clause-sized g c = let x = c.in_ok-open_page-2.ensures.pages in ∥∥₁_map c.requires.sized (λ h. opened_sized g.S.Steps.seen _ c.args.pages.now.items c.open_page-then-i-eq-MOST_IN_PAGE.new.pages.items _ x h)
+pub returns-in-Ok-clause-spot : goal.returns-in-Ok-clause-spot
+returns-in-Ok-clause-spot g c =
+    let b = (goal.at.returns-in-Ok-clause-spot g c).After-reserve_in in
+    let same : (d : Page _) → length (get_or c.reserve_in.new.pages.items c.in_ok-j.j d).inputs.items ≡ length (get_or c.find_room.new.pages.items c.in_ok-j.j d).inputs.items = λ d. parts_at c.find_room.new.pages.items c.reserve_in.new.pages.items c.in_ok-j.j d c.reserve_in.ensures.same in
+    record {
+      page = page g b;
+      one = omega arith;
+      place = λ d. none _ _ _ (same d) (c.in_ok-j.ensures.within d);
+      fits = λ d. more _ _ (same d) (c.in_ok-j.ensures.fits d);
+      room = λ e. c.in-Ok.ensures.room;
+    }
 
-page : (g : _) (c : In_ok-split_page g) → c.find-j.result.0 < length c.args.pages.now.items
-page g c = subst (λ (z : List _). c.find-j.result.0 < length z) c.deref-2.ensures.value c.find-j.ensures.page
+pub returns-in-Ok-clause-filled_but : goal.returns-in-Ok-clause-filled_but
+returns-in-Ok-clause-filled_but g c = ∥∥₁_map c.requires.filled (λ h. parts_but c.find_room.new.pages.items c.reserve_in.new.pages.items c.in_ok-j.j c.reserve_in.ensures.same (c.in_ok-j.ensures.filled h))
 
-long : (g : _) (c : In_ok-split_page g) (d : Page _) → 32 ≤ length (get_or c.args.pages.now.items c.find-j.result.0 d).inputs.items
-long g c d =
-    let p = c.index-2.result.now in
-    subst (λ z. 32 ≤ length z.inputs.items) (c.index-2.ensures ∙ same_default c.args.pages.now.items c.find-j.result.0 p d (page g c)) (half _ _ (c.len-2.ensures ∙ p.inputs.ok.0) c.if-len-lt-MOST_IN_PAGE.false)
+pub returns-in-Ok-clause-inputs : goal.returns-in-Ok-clause-inputs
+returns-in-Ok-clause-inputs g c = inputs g ((goal.at.returns-in-Ok-clause-inputs g c).After-reserve_in)
 
-has : (g : _) (c : In_ok-split_page g) (d : Page _) → c.find-j.result.1 < length (get_or c.args.pages.now.items c.find-j.result.0 d).inputs.items
-has g c = subst (λ (z : List _). (d : _) → c.find-j.result.1 < length (get_or z c.find-j.result.0 d).inputs.items) c.deref-2.ensures.value c.find-j.ensures.within
+pub returns-in-Ok-clause-pieces : goal.returns-in-Ok-clause-pieces
+returns-in-Ok-clause-pieces g c = parts_pieces c.find_room.new.pages.items c.reserve_in.new.pages.items c.reserve_in.ensures.same ∙ c.in_ok-j.ensures.pieces
 
-few : (g : _) (c : In_ok-split_page g) (d : Page _) → length (get_or c.args.pages.now.items c.find-j.result.0 d).inputs.items ≤ 64
-few g c d = page_small c.args.pages.now.items c.find-j.result.0 d (page g c) c.requires.sized
+pub returns-in-Ok-clause-holds : goal.returns-in-Ok-clause-holds
+returns-in-Ok-clause-holds g c = holds g ((goal.at.returns-in-Ok-clause-holds g c).After-reserve_in)
 
-at : (g : _) (c : In_ok-split_page g) → count_in (take c.find-j.result.0 c.args.pages.now.items) + c.find-j.result.1 ≡ c.args.k - 1
-at g c = ap (λ z. count_in (take c.find-j.result.0 z) + c.find-j.result.1) (sym c.deref-2.ensures.value) ∙ c.find-j.ensures.place
+pub returns-in-Ok-clause-sized : goal.returns-in-Ok-clause-sized
+returns-in-Ok-clause-sized g c = sized g ((goal.at.returns-in-Ok-clause-sized g c).After-reserve_in)
 
-pub returns-then-i-le-HALF-clause-inputs : goal.returns-then-i-le-HALF-clause-inputs
-returns-then-i-le-HALF-clause-inputs g c = let b = (goal.at.returns-then-i-le-HALF-clause-inputs g c).In_ok-split_page in halved_inputs g.S.Steps.seen (g.S.Steps.fold c.args.steps.now) (g.S.Steps.seen c.args.first.now) c.args.pages.now.items c.split_page.new.pages.items c.find-j.result.0 c.in_ok-split_page.ensures.halved (page g b)
+pub returns-in-Ok-clause-index : goal.returns-in-Ok-clause-index
+returns-in-Ok-clause-index g c = index g ((goal.at.returns-in-Ok-clause-index g c).After-reserve_in)
 
-pub returns-then-i-le-HALF-clause-holds : goal.returns-then-i-le-HALF-clause-holds
-returns-then-i-le-HALF-clause-holds g c = let b = (goal.at.returns-then-i-le-HALF-clause-holds g c).In_ok-split_page in ∥∥₁_map c.requires.holds (λ h. halved_holds g.S.Steps.seen (g.S.Steps.fold c.args.steps.now) (g.S.Steps.seen c.args.first.now) c.args.pages.now.items c.split_page.new.pages.items c.find-j.result.0 c.in_ok-split_page.ensures.halved (page g b) (long g b) h)
+pub returns-in-Err-clause-filled : goal.returns-in-Err-clause-filled
+returns-in-Err-clause-filled g c =
+    let b = (goal.at.returns-in-Err-clause-filled g c).After-reserve_in in
+    ∥∥₁_map c.requires.filled (λ h. dropped_filled c.reserve_in.new.pages.items c.drop_empty.new.pages.items c.in_ok-j.j c.drop_empty.ensures.pages (page g b) (parts_but c.find_room.new.pages.items c.reserve_in.new.pages.items c.in_ok-j.j c.reserve_in.ensures.same (c.in_ok-j.ensures.filled h)))
 
-pub returns-then-i-le-HALF-clause-sized : goal.returns-then-i-le-HALF-clause-sized
-returns-then-i-le-HALF-clause-sized g c = let b = (goal.at.returns-then-i-le-HALF-clause-sized g c).In_ok-split_page in ∥∥₁_map c.requires.sized (λ h. halved_sized g.S.Steps.seen (g.S.Steps.fold c.args.steps.now) (g.S.Steps.seen c.args.first.now) c.args.pages.now.items c.split_page.new.pages.items c.find-j.result.0 c.in_ok-split_page.ensures.halved (page g b) (long g b) h)
+pub returns-in-Err-clause-inputs : goal.returns-in-Err-clause-inputs
+returns-in-Err-clause-inputs g c =
+    let b = (goal.at.returns-in-Err-clause-inputs g c).After-reserve_in in
+    dropped_inputs c.reserve_in.new.pages.items c.drop_empty.new.pages.items c.in_ok-j.j c.drop_empty.ensures.pages (page g b) ∙ inputs g b
 
-pub returns-clause-inputs : goal.returns-clause-inputs
-returns-clause-inputs g c = let b = (goal.at.returns-clause-inputs g c).In_ok-split_page in halved_inputs g.S.Steps.seen (g.S.Steps.fold c.args.steps.now) (g.S.Steps.seen c.args.first.now) c.args.pages.now.items c.split_page.new.pages.items c.find-j.result.0 c.in_ok-split_page.ensures.halved (page g b)
+pub returns-in-Err-clause-pieces : goal.returns-in-Err-clause-pieces
+returns-in-Err-clause-pieces g c =
+    let b = (goal.at.returns-in-Err-clause-pieces g c).After-reserve_in in
+    let old = c.reserve_in.new.pages.items in
+    let new = c.drop_empty.new.pages.items in
+    ∥∥₁_elim (holds g b) (hlevel sets) (λ h.
+    same_pieces g.S.Steps.seen (g.S.Steps.fold c.args.steps.now) (g.S.Steps.seen c.args.first.now) old new h
+    (dropped_holds g.S.Steps.seen (g.S.Steps.fold c.args.steps.now) (g.S.Steps.seen c.args.first.now) old new c.in_ok-j.j c.drop_empty.ensures.pages (page g b) h)
+    (dropped_inputs old new c.in_ok-j.j c.drop_empty.ensures.pages (page g b)))
+    ∙ parts_pieces c.find_room.new.pages.items old c.reserve_in.ensures.same ∙ c.in_ok-j.ensures.pieces
 
-pub returns-clause-holds : goal.returns-clause-holds
-returns-clause-holds g c = let b = (goal.at.returns-clause-holds g c).In_ok-split_page in ∥∥₁_map c.requires.holds (λ h. halved_holds g.S.Steps.seen (g.S.Steps.fold c.args.steps.now) (g.S.Steps.seen c.args.first.now) c.args.pages.now.items c.split_page.new.pages.items c.find-j.result.0 c.in_ok-split_page.ensures.halved (page g b) (long g b) h)
+pub returns-in-Err-clause-holds : goal.returns-in-Err-clause-holds
+returns-in-Err-clause-holds g c =
+    let b = (goal.at.returns-in-Err-clause-holds g c).After-reserve_in in
+    ∥∥₁_map (holds g b) (λ h. dropped_holds g.S.Steps.seen (g.S.Steps.fold c.args.steps.now) (g.S.Steps.seen c.args.first.now) c.reserve_in.new.pages.items c.drop_empty.new.pages.items c.in_ok-j.j c.drop_empty.ensures.pages (page g b) h)
 
-pub returns-clause-sized : goal.returns-clause-sized
-returns-clause-sized g c = let b = (goal.at.returns-clause-sized g c).In_ok-split_page in ∥∥₁_map c.requires.sized (λ h. halved_sized g.S.Steps.seen (g.S.Steps.fold c.args.steps.now) (g.S.Steps.seen c.args.first.now) c.args.pages.now.items c.split_page.new.pages.items c.find-j.result.0 c.in_ok-split_page.ensures.halved (page g b) (long g b) h)
-
-pub returns-then-i-le-HALF-clause-within : goal.returns-then-i-le-HALF-clause-within
-returns-then-i-le-HALF-clause-within g c d = let b = (goal.at.returns-then-i-le-HALF-clause-within g c).In_ok-split_page in halved_within g.S.Steps.seen (g.S.Steps.fold c.args.steps.now) (g.S.Steps.seen c.args.first.now) c.args.pages.now.items c.split_page.new.pages.items c.find-j.result.0 c.find-j.result.1 c.in_ok-split_page.ensures.halved d (page g b) (long g b) c.if-i-le-HALF.true
-
-pub returns-then-i-le-HALF-clause-fits : goal.returns-then-i-le-HALF-clause-fits
-returns-then-i-le-HALF-clause-fits g c d = let b = (goal.at.returns-then-i-le-HALF-clause-fits g c).In_ok-split_page in halved_fits g.S.Steps.seen (g.S.Steps.fold c.args.steps.now) (g.S.Steps.seen c.args.first.now) c.args.pages.now.items c.split_page.new.pages.items c.find-j.result.0 c.in_ok-split_page.ensures.halved d (page g b) (long g b)
-
-pub returns-clause-place : goal.returns-clause-place
-returns-clause-place g c = let b = (goal.at.returns-clause-place g c).In_ok-split_page in halved_later g.S.Steps.seen (g.S.Steps.fold c.args.steps.now) (g.S.Steps.seen c.args.first.now) c.args.pages.now.items c.split_page.new.pages.items c.find-j.result.0 c.find-j.result.1 c.args.k c.in_ok-split_page.ensures.halved (page g b) (long g b) (at g b) (some _ c.if-k-eq0.false) c.if-i-le-HALF.false
-
-pub returns-clause-within : goal.returns-clause-within
-returns-clause-within g c d = let b = (goal.at.returns-clause-within g c).In_ok-split_page in later_within g.S.Steps.seen (g.S.Steps.fold c.args.steps.now) (g.S.Steps.seen c.args.first.now) c.args.pages.now.items c.split_page.new.pages.items c.find-j.result.0 c.find-j.result.1 c.in_ok-split_page.ensures.halved d (page g b) (has g b)
-
-pub returns-clause-fits : goal.returns-clause-fits
-returns-clause-fits g c d = let b = (goal.at.returns-clause-fits g c).In_ok-split_page in later_fits g.S.Steps.seen (g.S.Steps.fold c.args.steps.now) (g.S.Steps.seen c.args.first.now) c.args.pages.now.items c.split_page.new.pages.items c.find-j.result.0 c.in_ok-split_page.ensures.halved d (page g b) (few g b)
-
-pub returns-clause-rises : goal.returns-clause-rises
-returns-clause-rises g c = let b = (goal.at.returns-clause-rises g c).In_ok-split_page in later_rise _ _ c.find-j.result.1 _ c.in_ok-split_page.ensures.rises (has g b c.index-2.result.now) (few g b c.index-2.result.now)
-
-whole : (g : _) (c : In_ok-split_page g) (d : Page _) → 64 ≤ length (get_or c.args.pages.now.items c.find-j.result.0 d).inputs.items
-whole g c d =
-    let p = c.index-2.result.now in
-    subst (λ z. 64 ≤ length z.inputs.items) (c.index-2.ensures ∙ same_default c.args.pages.now.items c.find-j.result.0 p d (page g c)) (subst (λ n. 64 ≤ n) (c.len-2.ensures ∙ p.inputs.ok.0) c.if-len-lt-MOST_IN_PAGE.false)
-
-pub returns-then-len-lt-MOST_IN_PAGE-clause-filled : goal.returns-then-len-lt-MOST_IN_PAGE-clause-filled
-returns-then-len-lt-MOST_IN_PAGE-clause-filled g c h = filled_but c.find-j.result.0 c.args.pages.now.items h
-
-pub returns-then-i-eq-MOST_IN_PAGE-clause-filled : goal.returns-then-i-eq-MOST_IN_PAGE-clause-filled
-returns-then-i-eq-MOST_IN_PAGE-clause-filled g c h =
-    let x = c.in_ok-open_page-2.ensures.pages in
-    let l : c.find-j.result.0 < length c.args.pages.now.items = subst (λ (z : List _). c.find-j.result.0 < length z) c.deref-2.ensures.value c.find-j.ensures.page in
-    let m : c.find-j.result.0 + 1 ≤ length c.args.pages.now.items = omega arith in
-    opened_but g.S.Steps.seen _ c.args.pages.now.items c.open_page-then-i-eq-MOST_IN_PAGE.new.pages.items _ x m h
-
-pub returns-then-i-eq-MOST_IN_PAGE-clause-pieces : goal.returns-then-i-eq-MOST_IN_PAGE-clause-pieces
-returns-then-i-eq-MOST_IN_PAGE-clause-pieces g c = let x = c.in_ok-open_page-2.ensures.pages in opened_pieces g.S.Steps.seen _ c.args.pages.now.items c.open_page-then-i-eq-MOST_IN_PAGE.new.pages.items _ x
-
-pub returns-then-i-le-HALF-clause-filled : goal.returns-then-i-le-HALF-clause-filled
-returns-then-i-le-HALF-clause-filled g c h = let b = (goal.at.returns-then-i-le-HALF-clause-filled g c).In_ok-split_page in filled_but c.find-j.result.0 c.split_page.new.pages.items (halved_filled g.S.Steps.seen (g.S.Steps.fold c.args.steps.now) (g.S.Steps.seen c.args.first.now) c.args.pages.now.items c.split_page.new.pages.items c.find-j.result.0 c.in_ok-split_page.ensures.halved (page g b) (whole g b) h)
-
-pub returns-then-i-le-HALF-clause-pieces : goal.returns-then-i-le-HALF-clause-pieces
-returns-then-i-le-HALF-clause-pieces g c = let b = (goal.at.returns-then-i-le-HALF-clause-pieces g c).In_ok-split_page in halved_pieces g.S.Steps.seen (g.S.Steps.fold c.args.steps.now) (g.S.Steps.seen c.args.first.now) c.args.pages.now.items c.split_page.new.pages.items c.find-j.result.0 c.in_ok-split_page.ensures.halved (page g b)
-
-pub returns-clause-filled : goal.returns-clause-filled
-returns-clause-filled g c h = let b = (goal.at.returns-clause-filled g c).In_ok-split_page in filled_but (c.find-j.result.0 + 1) c.split_page.new.pages.items (halved_filled g.S.Steps.seen (g.S.Steps.fold c.args.steps.now) (g.S.Steps.seen c.args.first.now) c.args.pages.now.items c.split_page.new.pages.items c.find-j.result.0 c.in_ok-split_page.ensures.halved (page g b) (whole g b) h)
-
-pub returns-clause-pieces : goal.returns-clause-pieces
-returns-clause-pieces g c = let b = (goal.at.returns-clause-pieces g c).In_ok-split_page in halved_pieces g.S.Steps.seen (g.S.Steps.fold c.args.steps.now) (g.S.Steps.seen c.args.first.now) c.args.pages.now.items c.split_page.new.pages.items c.find-j.result.0 c.in_ok-split_page.ensures.halved (page g b)
-
--- the groups before a page that was put in or divided
-pub returns-then-i-eq-MOST_IN_PAGE-clause-index : goal.returns-then-i-eq-MOST_IN_PAGE-clause-index
-returns-then-i-eq-MOST_IN_PAGE-clause-index g c =
-    let x = c.in_ok-open_page-2.ensures.pages in
-    let l : c.find-j.result.0 < length c.args.pages.now.items = subst (λ (z : List _). c.find-j.result.0 < length z) c.deref-2.ensures.value c.find-j.ensures.page in
-    let m : c.find-j.result.0 + 1 ≤ length c.args.pages.now.items = omega arith in
-    subst (λ z. IsIndex z c.open_page-then-i-eq-MOST_IN_PAGE.new.pages.items) (sym c.cut_groups-then-i-eq-MOST_IN_PAGE.ensures) (index_put c.args.groups.now.items c.args.pages.now.items _ _ (c.find-j.result.0 + 1) c.requires.index x.list m)
-
-cut : (g : _) (c : After-cut_groups-2 g) → c.find-j.result.0 < length c.args.pages.now.items → IsIndex c.cut_groups-2.new.groups.items c.split_page.new.pages.items
-cut g c l =
-    let x = c.in_ok-split_page.ensures.halved.divided in
-    let m : c.find-j.result.0 ≤ length c.args.pages.now.items = omega arith in
-    subst (λ z. IsIndex z c.split_page.new.pages.items) (sym c.cut_groups-2.ensures) (index_put c.args.groups.now.items c.args.pages.now.items _ _ c.find-j.result.0 c.requires.index x.list m)
-
-pub returns-then-i-le-HALF-clause-index : goal.returns-then-i-le-HALF-clause-index
-returns-then-i-le-HALF-clause-index g c = cut g ((goal.at.returns-then-i-le-HALF-clause-index g c).After-cut_groups-2) (page g ((goal.at.returns-then-i-le-HALF-clause-index g c).In_ok-split_page))
-
-pub returns-clause-index : goal.returns-clause-index
-returns-clause-index g c = cut g ((goal.at.returns-clause-index g c).After-cut_groups-2) (page g ((goal.at.returns-clause-index g c).In_ok-split_page))
+pub returns-in-Err-clause-sized : goal.returns-in-Err-clause-sized
+returns-in-Err-clause-sized g c =
+    let b = (goal.at.returns-in-Err-clause-sized g c).After-reserve_in in
+    ∥∥₁_map (sized g b) (λ h. dropped_sized c.reserve_in.new.pages.items c.drop_empty.new.pages.items c.in_ok-j.j c.drop_empty.ensures.pages (page g b) h)
