@@ -263,10 +263,10 @@ pub err_status : {A : Type 0} (served : Result A StreamFault) (r : Result ℕ St
 err_status (Ok a) r Q ok err h = subst (λ x. IfErr x Q) (sym ok) tt
 err_status (Err f) r Q ok err h = subst (λ x. IfErr x Q) (sym err) h
 
--- a clause on each fault and one on any
-pub on_fault : {A : Type 0} (served : Result A StreamFault) {P : StreamFault → Type 0} {Q : Type 0} → IfErr served P → OnErr served Q → IfErr served (λ f. P f × Q)
-on_fault (Ok a) h k = tt
-on_fault (Err f) h k = (h, k)
+-- from a clause on each fault and one on any
+pub cut_off : {A : Type 0} (served : Result A StreamFault) (P R : StreamFault → Type 0) (Q : Type 0) → IfErr served P → OnErr served Q → ((f : StreamFault) → P f → Q → R f) → IfErr served R
+cut_off (Ok a) P R Q h k both = tt
+cut_off (Err f) P R Q h k both = both f h k
 
 -- nothing was written before a fault other than a write fault
 pub stopped_before : (f : StreamFault) (files : Option (List ℕ)) (follow : Bool) (o : Chosen) (text : List ℕ) (s : Stage) → f ≢ stream_fault.Write → IsSessionStopped f files follow o text s s
