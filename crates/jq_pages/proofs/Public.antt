@@ -90,21 +90,26 @@ tail_of seen r h k t ps b x = x.tail ∙ ap r.close (kept_is seen r (seen t) ps 
 pub all_of : {T S : Type 0} (seen : T → S) (r : Fold S) (h k : Piece) (t : T) (ps : List (Page T)) → IsBegun seen r h t → IsHeld seen r (seen t) ps k → piece_view h ∷ (all_pieces ps ++ (piece_view k ∷ [])) ≡ all (folded_in r (all_inputs ps))
 all_of seen r h k t ps b x = ap₂ (λ y z. y ∷ (z ++ (piece_view k ∷ []))) b.head (pieces_of seen r h k t ps b x) ∙ ap (λ z. r.begin.0 ∷ (pieces (folded_in r (all_inputs ps)) ++ (z ∷ []))) (tail_of seen r h k t ps b x)
 
-pub joined_pages : {T : Type 0} (ps : List (Page T)) → flat_map (λ z. z) (map pieces_in ps) ≡ all_pieces ps
-joined_pages [] = refl
-joined_pages (p ∷ ps) = ap (λ z. pieces_in p ++ z) (joined_pages ps)
+pub joined_pages : {T A : Type 0} (f : Page T → List A) (ps : List (Page T)) → flat_map (λ z. z) (map f ps) ≡ flat_map f ps
+joined_pages f [] = refl
+joined_pages f (p ∷ ps) = ap (λ z. f p ++ z) (joined_pages f ps)
 
 filled_at : {T : Type 0} (ps : List (Page T)) (j : ℕ) (d : Page T) → j < length ps → IsFilled ps → 0 < length (get_or ps j d).inputs.items
 filled_at [] j d l h = absurd (omega arith)
 filled_at (p ∷ ps) zero d l h = h.0
 filled_at (p ∷ ps) (suc j) d l h = let l' : j < length ps = omega arith in filled_at ps j d l' h.1
 
-pub page_size : {T S : Type 0} (seen : T → S) (r : Fold S) (s : S) (ps : List (Page T)) (j : ℕ) (d : Page T) → j < length ps → Holds seen r s ps → IsSized ps → IsFilled ps → (1 ≤ length (get_or ps j d).pieces.items.items) × (length (get_or ps j d).pieces.items.items ≤ 64)
-page_size seen r s ps j d l h z f =
-    let e : length (get_or ps j d).pieces.items.items ≡ length (get_or ps j d).inputs.items = page_pieces seen r s ps j d l h in
+pub inputs_size : {T : Type 0} (ps : List (Page T)) (j : ℕ) (d : Page T) → j < length ps → IsSized ps → IsFilled ps → (1 ≤ length (get_or ps j d).inputs.items) × (length (get_or ps j d).inputs.items ≤ 64)
+inputs_size ps j d l z f =
     let m : length (get_or ps j d).inputs.items ≤ 64 = page_small ps j d l ∣ z ∣₁ in
     let n : 0 < length (get_or ps j d).inputs.items = filled_at ps j d l f in
     (omega arith, omega arith)
+
+pub page_size : {T S : Type 0} (seen : T → S) (r : Fold S) (s : S) (ps : List (Page T)) (j : ℕ) (d : Page T) → j < length ps → Holds seen r s ps → IsSized ps → IsFilled ps → (1 ≤ length (get_or ps j d).pieces.items.items) × (length (get_or ps j d).pieces.items.items ≤ 64)
+page_size seen r s ps j d l h z f =
+    let e : length (get_or ps j d).pieces.items.items ≡ length (get_or ps j d).inputs.items = page_pieces seen r s ps j d l h in
+    let n = inputs_size ps j d l z f in
+    (subst (λ k. 1 ≤ k) (sym e) n.0, subst (λ k. k ≤ 64) (sym e) n.1)
 
 -- ---- how often the filter is started
 

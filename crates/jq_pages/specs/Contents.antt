@@ -21,3 +21,7 @@ starts_of {S} {T} {own} p = own.starts p.kept.steps
 -- the pieces of its pages
 abbrev pub paged_in : {S T : Type 0} {own : Ghosts S T} → Pages S T own → List (List PieceView)
 paged_in p = map (λ page. map piece_view page.pieces.items.items) p.kept.pages.items
+
+-- the inputs of its pages
+abbrev pub inputs_paged_in : {S T : Type 0} {own : Ghosts S T} → Pages S T own → List (List Value)
+inputs_paged_in p = map (λ page. map view page.inputs.items) p.kept.pages.items

@@ -33,7 +33,7 @@ impl<S: Steps> Pages<S> {
     ghost use Rattle.jv_data.specs.View.{view};
     ghost use Rattle.std.specs.List.{flat_map};
     ghost use Rattle.jq_pages.specs.Changes.{IsChange, IsStart, IsStarted};
-    ghost use Rattle.jq_pages.specs.Contents.{folded_in, folded_of, paged_in, starts_of};
+    ghost use Rattle.jq_pages.specs.Contents.{folded_in, folded_of, inputs_paged_in, paged_in, starts_of};
     ghost use Rattle.jq_pages.specs.Edits.{after, insert, remove, replace};
     ghost use Rattle.jq_pages.specs.Folds.{all, head, pieces, tail};
     ghost use Rattle.jq_pages.specs.Pieces.{piece_view};
@@ -201,6 +201,8 @@ impl<S: Steps> Pages<S> {
     pub fn page_count(&self) -> usize
         ensures count { result ≡ length (paged_in self.now) }
         ensures joined { flat_map (λ ps. ps) (paged_in self.now) ≡ pieces (folded_of self.now) }
+        ensures inputs_count { result ≡ length (inputs_paged_in self.now) }
+        ensures inputs_joined { flat_map (λ vs. vs) (inputs_paged_in self.now) ≡ (folded_of self.now).inputs }
     {
         self.kept.pages.len()
     }
@@ -212,6 +214,15 @@ impl<S: Steps> Pages<S> {
         ensures size { (1 ≤ length result.now) × (length result.now ≤ 64) }
     {
         &self.kept.pages[j].pieces.items
+    }
+
+    /// The inputs of a page, from 1 to 64. Those of all pages, one page after the other, are all inputs.
+    pub fn inputs(&self, j: usize) -> &[Val]
+        requires { j < length (inputs_paged_in self.now) }
+        ensures inputs { slice_get (inputs_paged_in self.now) j ≡ Some (map view result.now) }
+        ensures size { (1 ≤ length result.now) × (length result.now ≤ 64) }
+    {
+        &self.kept.pages[j].inputs
     }
 
     /// The totals of all pieces: that of `begin`, those of the inputs and that of `close`.
@@ -229,5 +240,12 @@ impl<S: Steps> Pages<S> {
         ensures starts { S.starts result.now ≡ starts_of self.now }
     {
         &self.kept.steps
+    }
+    /// Gives the steps back.
+    pub fn into_steps(self) -> S
+        ensures fold { S.fold result ≡ (folded_of self).fold }
+        ensures starts { S.starts result ≡ starts_of self }
+    {
+        self.kept.steps
     }
 }
