@@ -12,7 +12,7 @@ ghost use Rattle.jq_pages.specs.private.Placed.{Grown};
 use crate::following::kept_after;
 use crate::grouping::{Group, add_groups};
 use crate::listing::PieceList;
-use crate::page::{MOST_IN_PAGE, Page};
+use crate::page::{FIRST_IN_PAGE, Page};
 use crate::pieces::Piece;
 use crate::steps::Steps;
 use jv_data::{NoMemory, Val};
@@ -79,13 +79,13 @@ fn add_input<S: Steps>(
 {
     let (piece, exit) = steps.step(kept_after::<S>(first, pages), &value)?;
     let count = pages.len();
-    if count == 0 || pages[count - 1].inputs.len() >= MOST_IN_PAGE {
+    if count == 0 || pages[count - 1].inputs.len() >= FIRST_IN_PAGE {
         return add_page(alloc, pages, value, piece, exit);
     }
     add_to_last(pages, count - 1, value, piece, exit)
 }
 
-// Runs over the first inputs, in full pages and a last one.
+// Runs over the first inputs, in pages of 48 and a last one.
 pub(crate) fn fill_pages<S: Steps>(
     alloc: Global,
     steps: &mut S,

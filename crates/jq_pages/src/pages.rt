@@ -41,7 +41,7 @@ impl<S: Steps> Pages<S> {
     ghost use Rattle.jq_pages.specs.Splices.{IsSpliced};
     ghost use Rattle.jq_pages.specs.Totals.{totals};
 
-    /// Starts with these inputs, and runs all steps. It is refused if there are more than 1,000,000 inputs, or if memory runs out; the
+    /// Starts with these inputs, in pages of at most 48, and runs all steps. It is refused if there are more than 1,000,000 inputs, or if memory runs out; the
     /// steps then come back with the refusal.
     pub fn start(alloc: Global, mut steps: S, inputs: Vec<Val>) -> Result<Pages<S>, NotStarted<S>>
         ensures folded { IfOk result (λ p. folded_of p ≡ folded_in (S.fold steps) (map view inputs.items)) }
