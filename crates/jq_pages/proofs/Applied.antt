@@ -8,7 +8,7 @@ use Rattle.jv_data.specs.View.{view}
 use Rattle.jq_pages.specs.Pieces.{PieceView, piece_view}
 use Rattle.jq_pages.specs.Folds.{Fold, Rises, state_after}
 use Rattle.jq_pages.specs.private.Reruns.{IsRunOf, RunsOver, Holds, MeetsAt, exit_of, kept_of, count_in, renewed, inputs_in, pieces_in}
-use Rattle.jq_pages.specs.private.Pages.{all_inputs, all_pieces, IsSized}
+use Rattle.jq_pages.specs.private.Pages.{all_inputs, all_pieces, IsPlace, IsSized}
 use Rattle.jq_pages.specs.private.Placed.{put_at}
 use Rattle.jq_pages.specs.private.Edits.{Meets, IsListChange, changed}
 use Rattle.jq_pages.specs.declared.page.Page.{Page}
@@ -66,6 +66,11 @@ near_end seen r s as' bs p put i cut q h z l few m =
 -- the page of an edit, by its place
 pub split_at : {T : Type 0} (old : List (Page T)) (j : ℕ) (p : Page T) → j < length old → p ≡ get_or old j p → old ≡ take j old ++ (p ∷ drop (j + 1) old)
 split_at old j p l e = around old j p l ∙ ap (λ z. take j old ++ (z ∷ drop (j + 1) old)) (sym e)
+
+-- the page of the place of an edit
+pub here : {T : Type 0} {old : List (Page T)} {j i more cut : ℕ} → IsPlace old j i more cut → (p : Page T) × (p ≡ get_or old j p)
+here {old = []} h = let l = h.page in absurd (omega arith)
+here {old = p ∷ ps} {j = j} h = (get_or (p ∷ ps) j p, same_default (p ∷ ps) j p (get_or (p ∷ ps) j p) h.page)
 
 -- where the runs of an edit may go on to
 pub AnEnd : {T S : Type 0} → (T → S) → Fold S → (s e : S) → (old : List (Page T)) → (j i cut : ℕ) → (p : Page T) → List Val → ℕ → Type 0

@@ -12,3 +12,4 @@ pub mod Sums
 pub mod Cuts
 pub mod Groups
 pub mod Joined
+pub mod Parts

@@ -17,7 +17,7 @@ use Rattle.jq_pages.specs.private.Edits.{IsListChange, IsListEdit, IsOneEdit, Is
 use Rattle.jq_pages.specs.Splices.{IsSplice, IsSpliced, closing}
 use Rattle.jq_pages.specs.private.Cuts.{AreSplices}
 use Rattle.jq_pages.specs.private.Pages.{all_inputs, all_pieces, IsBegun, IsFilled, IsHeld, IsSized}
-use Rattle.jq_pages.specs.private.Reruns.{Holds, count_in, pieces_in}
+use Rattle.jq_pages.specs.private.Reruns.{Holds, count_in}
 use Rattle.jq_pages.specs.declared.changes.Change.{Change}
 use Rattle.jq_pages.specs.declared.changes.Edited.{Edited}
 use Rattle.jq_pages.specs.declared.page.Page.{Page}

@@ -55,7 +55,6 @@ pub(crate) fn edit_pages<S: Steps>(
     ensures index { IsIndex groups.new.items pages.new.items }
 {
     let page = &pages[j];
-    let room = Vec::with_capacity(alloc, page.inputs.len() + 1)?;
     let entry = kept_after::<S>(first, &pages[..j]);
     let new = slice_of(&put);
     let more = new.len();
@@ -69,7 +68,7 @@ pub(crate) fn edit_pages<S: Steps>(
         runs,
         tail: closing,
     } = made;
-    install(pages, room, j, i, put, cut, run, runs);
+    install(pages, j, i, put, cut, run, runs);
     let closed = replace_tail(tail, closing);
     sum_again(groups, pages, j, last);
     Ok(Edited {
@@ -116,13 +115,10 @@ fn edit_plain<S: Steps>(
     ensures same { S.fold steps.new ≡ S.fold steps.old }
     ensures index { IsIndex groups.new.items pages.new.items }
 {
-    let page = &pages[j];
-    let room = Vec::with_capacity(alloc, page.inputs.len() + 1)?;
-    let places = Vec::with_capacity(alloc, page.pieces.items.len() + 1)?;
     let more = slice_of(&put).len();
     let piece = run_one(steps, state, &put)?;
     let splices = splices_one(alloc, head, groups, pages, j, i, cut, piece_slice(&piece))?;
-    install_one(pages, room, places, j, i, put, piece, cut);
+    install_one(pages, j, i, put, piece, cut);
     sum_again(groups, pages, j, j);
     Ok(Edited {
         change: Change {

@@ -64,15 +64,23 @@ impl PieceList {
         to.sum = totals_of(&to.items);
     }
 
-    // Removes `cut` pieces at a place and inserts one there, if there is one. The pieces move to `room`.
-    pub(crate) fn edit(&mut self, room: Vec<Piece>, i: usize, put: Option<Piece>, cut: usize)
+    // Reserves room for one more piece.
+    pub(crate) fn reserve_one(&mut self) -> Result<(), NoMemory>
+        ensures items { self.new.items.items ≡ self.old.items.items }
+        ensures room { OnOk result (length self.new.items.items + 1 ≤ vec_capacity self.new.items) }
+    {
+        self.items.reserve(1)?;
+        Ok(())
+    }
+
+    // Removes `cut` pieces at a place and inserts one there, if there is one. There is room for an insertion.
+    pub(crate) fn edit(&mut self, i: usize, put: Option<Piece>, cut: usize)
         requires cut { cut ≤ 1 }
         requires place { i + cut ≤ length self.old.items.items }
-        requires empty { room.items ≡ [] }
-        requires room { length self.old.items.items + 1 ≤ vec_capacity room }
+        requires room { cut ≡ 0 → length self.old.items.items + 1 ≤ vec_capacity self.old.items }
         ensures { self.new.items.items ≡ (take i self.old.items.items ++ option_to_list put) ++ drop (i + cut) self.old.items.items }
     {
-        edit_list(&mut self.items, room, i, put, cut);
+        edit_list(&mut self.items, i, put, cut);
         self.sum = totals_of(&self.items);
     }
 

@@ -1,5 +1,5 @@
 // Lists: optional elements as slices, and changes that need no memory.
-ghost use Rattle.std.specs.Prelude.{◌≡◌, ◌+◌, ◌≤◌, [], ◌++◌, length, take, drop, vec_capacity};
+ghost use Rattle.std.specs.Prelude.{◌≡◌, ◌+◌, ◌<◌, ◌≤◌, [], ◌++◌, length, take, drop, vec_capacity};
 ghost use Rattle.std.specs.Option.{option_to_list};
 
 use crate::pieces::Piece;
@@ -35,29 +35,6 @@ pub(crate) fn move_tail<A: Drop>(from: &mut Vec<A>, to: &mut Vec<A>, at: usize)
     }
 }
 
-// Moves elements to a list that has room for them and one more.
-fn move_to<A: Drop>(room: &mut Vec<A>, list: &mut Vec<A>)
-    requires empty { room.old.items ≡ [] }
-    requires room { length list.old.items + 1 ≤ vec_capacity room.old }
-    ensures items { room.new.items ≡ list.old.items }
-    ensures room { length room.new.items + 1 ≤ vec_capacity room.new }
-{
-    let _ = room.append(list);
-}
-
-// Removes `cut` elements at a place.
-fn cut_out<A: Drop>(list: &mut Vec<A>, i: usize, cut: usize)
-    requires cut { cut ≤ 1 }
-    requires place { i + cut ≤ length list.old.items }
-    requires room { length list.old.items + 1 ≤ vec_capacity list.old }
-    ensures items { list.new.items ≡ take i list.old.items ++ drop (i + cut) list.old.items }
-    ensures room { length list.new.items + 1 ≤ vec_capacity list.new }
-{
-    if cut == 1 {
-        list.remove(i);
-    }
-}
-
 // Inserts an element, if there is one.
 fn put_in<A: Drop>(list: &mut Vec<A>, i: usize, put: Option<A>)
     requires place { i ≤ length list.old.items }
@@ -69,24 +46,32 @@ fn put_in<A: Drop>(list: &mut Vec<A>, i: usize, put: Option<A>)
     }
 }
 
-// Removes `cut` elements at a place and inserts one there, if there is one. The elements move to `room`.
-pub(crate) fn edit_list<A: Drop>(
-    list: &mut Vec<A>,
-    mut room: Vec<A>,
-    i: usize,
-    put: Option<A>,
-    cut: usize,
-)
+// Replaces an element, or removes it if there is no other.
+fn change_one<A: Drop>(list: &mut Vec<A>, i: usize, put: Option<A>)
+    requires place { i < length list.old.items }
+    ensures { list.new.items ≡ (take i list.old.items ++ option_to_list put) ++ drop (i + 1) list.old.items }
+{
+    match put {
+        Some(value) => list[i] = value,
+        None => {
+            list.remove(i);
+        }
+    }
+}
+
+// Removes `cut` elements at a place and inserts one there, if there is one. The elements stay in their list, which has room for an
+// insertion.
+pub(crate) fn edit_list<A: Drop>(list: &mut Vec<A>, i: usize, put: Option<A>, cut: usize)
     requires cut { cut ≤ 1 }
     requires place { i + cut ≤ length list.old.items }
-    requires empty { room.items ≡ [] }
-    requires room { length list.old.items + 1 ≤ vec_capacity room }
+    requires room { cut ≡ 0 → length list.old.items + 1 ≤ vec_capacity list.old }
     ensures { list.new.items ≡ (take i list.old.items ++ option_to_list put) ++ drop (i + cut) list.old.items }
 {
-    move_to(&mut room, list);
-    cut_out(&mut room, i, cut);
-    put_in(&mut room, i, put);
-    *list = room;
+    if cut == 0 {
+        put_in(list, i, put);
+    } else {
+        change_one(list, i, put);
+    }
 }
 
 // Adds the elements of another list at the end. All move to `room`.

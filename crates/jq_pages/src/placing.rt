@@ -1,8 +1,9 @@
-// What an edit changes after its runs. None of this needs memory.
-ghost use Rattle.std.specs.Prelude.{◌≡◌, ℕ, ◌+◌, ◌<◌, ◌≤◌, ◌^◌, [], ◌∷◌, ◌++◌, length, take, drop, map, vec_capacity, slice_index_or, MatchOption, IsTrue, IsFalse, IsSome, ◌↔◌};
+// What an edit changes after its runs. None of this needs memory: the other inputs of a page stay where they are.
+ghost use Rattle.std.specs.Prelude.{◌≡◌, ℕ, ◌+◌, ◌<◌, ◌≤◌, ◌^◌, [], ◌∷◌, ◌++◌, length, take, drop, map, slice_index_or, MatchOption, IsTrue, IsFalse, IsSome, ◌↔◌};
 ghost use Rattle.std.specs.Option.{option_to_list};
 ghost use Rattle.jq_pages.specs.private.Reruns.{renewed, count_in};
 ghost use Rattle.jq_pages.specs.private.Groups.{IsIndex};
+ghost use Rattle.jq_pages.specs.private.Pages.{HasRoom};
 ghost use Rattle.jq_pages.specs.private.Placed.{Installed, Dropped, Replaced};
 
 use crate::grouping::{Group, cut_groups};
@@ -73,7 +74,6 @@ pub(crate) fn measure<T>(pages: &[Page<T>], j: usize, k: usize) -> usize
 // Edits a page, and gives it and the pages after it what was run.
 pub(crate) fn install<T: Drop>(
     pages: &mut Vec<Page<T>>,
-    room: Vec<Val>,
     j: usize,
     i: usize,
     put: Option<Val>,
@@ -84,12 +84,11 @@ pub(crate) fn install<T: Drop>(
     requires page { j + 1 + length runs.items ≤ length pages.old.items }
     requires cut { cut ≤ 1 }
     requires place { (d : Page T) → i + cut ≤ length (slice_index_or pages.old.items j d).inputs.items }
-    requires empty { room.items ≡ [] }
-    requires room { (d : Page T) → length (slice_index_or pages.old.items j d).inputs.items + 1 ≤ vec_capacity room }
+    requires room { cut ≡ 0 → HasRoom pages.old.items j }
     ensures { Installed pages.old.items pages.new.items j i (option_to_list put) cut run runs.items }
 {
     let page = &mut pages[j];
-    edit_list(&mut page.inputs, room, i, put, cut);
+    edit_list(&mut page.inputs, i, put, cut);
     page.pieces = run.pieces;
     page.exit = run.exit;
     put_in_place(pages, j + 1, runs);
@@ -98,8 +97,6 @@ pub(crate) fn install<T: Drop>(
 // Edits a page and its pieces at one place; its state stays.
 pub(crate) fn install_one<T: Drop>(
     pages: &mut Vec<Page<T>>,
-    room: Vec<Val>,
-    places: Vec<Piece>,
     j: usize,
     i: usize,
     put: Option<Val>,
@@ -110,14 +107,12 @@ pub(crate) fn install_one<T: Drop>(
     requires cut { cut ≤ 1 }
     requires place { (d : Page T) → i + cut ≤ length (slice_index_or pages.old.items j d).inputs.items }
     requires have { (d : Page T) → i + cut ≤ length (slice_index_or pages.old.items j d).pieces.items.items }
-    requires empty { (room.items ≡ []) × (places.items ≡ []) }
-    requires room { (d : Page T) → length (slice_index_or pages.old.items j d).inputs.items + 1 ≤ vec_capacity room }
-    requires places { (d : Page T) → length (slice_index_or pages.old.items j d).pieces.items.items + 1 ≤ vec_capacity places }
+    requires room { cut ≡ 0 → HasRoom pages.old.items j }
     ensures { Replaced pages.old.items pages.new.items j i (option_to_list put) (option_to_list piece) cut }
 {
     let page = &mut pages[j];
-    edit_list(&mut page.inputs, room, i, put, cut);
-    page.pieces.edit(places, i, piece, cut);
+    edit_list(&mut page.inputs, i, put, cut);
+    page.pieces.edit(i, piece, cut);
 }
 
 // Removes page `j` if it has no input.

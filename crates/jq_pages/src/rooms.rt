@@ -1,9 +1,9 @@
 // Room for one more input.
-ghost use Rattle.std.specs.Prelude.{◌≡◌, ℕ, ◌+◌, ◌-◌, ◌<◌, ◌≤◌, length, take, IfOk, OnOk, OnErr, IsTrue, slice_index_or};
+ghost use Rattle.std.specs.Prelude.{◌≡◌, ℕ, ◌+◌, ◌-◌, ◌<◌, ◌≤◌, length, map, take, IfOk, OnOk, OnErr, IsTrue, slice_index_or};
 ghost use Rattle.jq_pages.specs.Folds.{Rises};
 ghost use Rattle.jq_pages.specs.private.Reruns.{Holds, count_in};
 ghost use Rattle.jq_pages.specs.private.Groups.{IsIndex};
-ghost use Rattle.jq_pages.specs.private.Pages.{all_inputs, all_pieces, IsFilled, IsFilledBut, IsSized};
+ghost use Rattle.jq_pages.specs.private.Pages.{all_inputs, all_pieces, parts, HasRoom, IsFilled, IsFilledBut, IsPlace, IsSized};
 ghost use Rattle.jq_pages.specs.private.Placed.{Opened};
 
 use crate::dividing::{HALF, split_page};
@@ -11,6 +11,7 @@ use crate::following::kept_after;
 use crate::grouping::{Group, cut_groups, find};
 use crate::listing::PieceList;
 use crate::page::{MOST_IN_PAGE, Page};
+use crate::placing::drop_empty;
 use crate::steps::Steps;
 use jv_data::NoMemory;
 use std::alloc::Global;
@@ -45,9 +46,9 @@ fn has_room<T>(pages: &[Page<T>], j: usize) -> bool
     j < pages.len() && pages[j].inputs.len() < MOST_IN_PAGE
 }
 
-// Finds or makes a page with room for one more input at a place: the page that has the place before, the next page, a new page, or
-// a part of a full page that is divided. No input and no piece changes.
-pub(crate) fn make_room<S: Steps>(
+// Finds or makes a page that is not full at a place: the page that has the place before, the next page, a new page, or a part of a
+// full page that is divided. No input and no piece changes.
+fn find_room<S: Steps>(
     alloc: Global,
     steps: &mut S,
     first: &S::State,
@@ -100,4 +101,53 @@ pub(crate) fn make_room<S: Steps>(
         return Ok((j, i + 1));
     }
     Ok((j + 1, i + 1 - HALF))
+}
+
+// Reserves memory for one more input of page `j`, and for its piece. Nothing else changes.
+fn reserve_in<T: Drop>(pages: &mut Vec<Page<T>>, j: usize) -> Result<(), NoMemory>
+    requires { j < length pages.old.items }
+    ensures same { map parts pages.new.items ≡ map parts pages.old.items }
+    ensures room { OnOk result (HasRoom pages.new.items j) }
+{
+    let page = &mut pages[j];
+    page.inputs.reserve(1)?;
+    page.pieces.reserve_one()
+}
+
+// Makes room for one more input at a place: the later insertion needs no memory. No input and no piece changes.
+pub(crate) fn make_room<S: Steps>(
+    alloc: Global,
+    steps: &mut S,
+    first: &S::State,
+    groups: &mut Vec<Group>,
+    pages: &mut Vec<Page<S::State>>,
+    k: usize,
+) -> Result<(usize, usize), NoMemory>
+    requires place { k ≤ count_in pages.old.items }
+    requires index { IsIndex groups.old.items pages.old.items }
+    requires holds { ∥ Holds S.seen (S.fold steps.old) (S.seen first.now) pages.old.items ∥₁ }
+    requires sized { ∥ IsSized pages.old.items ∥₁ }
+    requires filled { ∥ IsFilled pages.old.items ∥₁ }
+    ensures place { IfOk result (λ r. count_in (take r.0 pages.new.items) + r.1 ≡ k) }
+    ensures spot { IfOk result (λ r. IsPlace pages.new.items r.0 r.1 1 0) }
+    ensures filled_but { IfOk result (λ r. ∥ IsFilledBut r.0 pages.new.items ∥₁) }
+    ensures filled { OnErr result (∥ IsFilled pages.new.items ∥₁) }
+    ensures inputs { all_inputs pages.new.items ≡ all_inputs pages.old.items }
+    ensures pieces { all_pieces pages.new.items ≡ all_pieces pages.old.items }
+    ensures holds { ∥ Holds S.seen (S.fold steps.old) (S.seen first.now) pages.new.items ∥₁ }
+    ensures sized { ∥ IsSized pages.new.items ∥₁ }
+    ensures index { IsIndex groups.new.items pages.new.items }
+    ensures same { S.fold steps.new ≡ S.fold steps.old }
+    ensures rises { IfOk result (λ r. Rises (S.starts steps.old) (S.starts steps.new) (64 - r.1)) }
+    ensures at_most { OnErr result (Rises (S.starts steps.old) (S.starts steps.new) 64) }
+    ensures silent { IsTrue (S.fold steps.old).plain → S.starts steps.new ≡ S.starts steps.old }
+{
+    let (j, i) = find_room(alloc, steps, first, groups, pages, k)?;
+    match reserve_in(pages, j) {
+        Ok(()) => Ok((j, i)),
+        Err(refused) => {
+            drop_empty(groups, pages, j);
+            Err(refused)
+        }
+    }
 }

@@ -1,7 +1,8 @@
 -- What pages of inputs hold.
-use Rattle.std.specs.Prelude.{◌≡◌, ℕ, ◌+◌, ◌<◌, ◌≤◌, List, [], ◌∷◌, take, drop, length, slice_index_or}
+use Rattle.std.specs.Prelude.{◌≡◌, ℕ, ◌+◌, ◌<◌, ◌≤◌, List, [], ◌∷◌, take, drop, length, slice_index_or, vec_capacity}
 use Rattle.std.specs.List.{flat_map}
 use Rattle.jv_meaning.specs.Value.{Value}
+use Rattle.jv_data.specs.declared.values.Val.{Val}
 use Rattle.jq_pages.specs.Folds.{Fold}
 use Rattle.jq_pages.specs.Pieces.{PieceView, piece_view}
 use Rattle.jq_pages.specs.private.Reruns.{Holds, inputs_in, pieces_in, kept_of}
@@ -40,9 +41,19 @@ pub record IsHeld {T S : Type 0} (seen : T → S) (r : Fold S) (s : S) (ps : Lis
   pub sized : IsSized ps
   pub tail : piece_view e ≡ r.close (kept_of seen s ps)
 
+-- what a page has, without the capacity of its vectors
+abbrev pub parts : {T : Type 0} → Page T → List Val × List Piece × T
+parts p = (p.inputs.items, p.pieces.items.items, p.exit)
+
+-- One more input of page `j` and its piece need no memory.
+pub record HasRoom {T : Type 0} (pages : List (Page T)) (j : ℕ) : Type 0 where
+  pub inputs : (d : Page T) → length (slice_index_or pages j d).inputs.items + 1 ≤ vec_capacity (slice_index_or pages j d).inputs
+  pub pieces : (d : Page T) → length (slice_index_or pages j d).pieces.items.items + 1 ≤ vec_capacity (slice_index_or pages j d).pieces.items
+
 -- An edit at place `i` of page `j` can take out `cut` inputs and put in `more`.
 pub record IsPlace {T : Type 0} (pages : List (Page T)) (j i more cut : ℕ) : Type 0 where
   pub page : j < length pages
   pub one : cut ≤ 1
   pub place : (d : Page T) → i + cut ≤ length (slice_index_or pages j d).inputs.items
   pub fits : (d : Page T) → length (slice_index_or pages j d).inputs.items + more ≤ 64 + cut
+  pub room : cut ≡ 0 → HasRoom pages j

@@ -1,4 +1,4 @@
-use Rattle.std.proofs.Common.{◌<◌, ◌≤◌, ◌+◌, ℕ, List, length, get_or, subst, arith}
+use Rattle.std.proofs.Common.{◌≡◌, ◌<◌, ◌≤◌, ◌+◌, ℕ, List, length, get_or, subst, arith}
 use Rattle.std.proofs.Math.Logic.{∥∥₁_map}
 use Rattle.jq_pages.specs.private.Pages.{IsSized}
 use Rattle.jq_pages.proofs.Applied.{room_edit, page_small, page_spot}
@@ -19,6 +19,9 @@ sized g c = ∥∥₁_map c.requires.held (λ h. h.sized)
 next : (i n : ℕ) → i < n → i + 1 ≤ n
 next i n l = omega arith
 
+never : ◌≡◌ {A = ℕ} 1 0 → ⊥
+never e = omega arith
+
 pub edit_at-requires-clause-place : goal.edit_at-requires-clause-place
 edit_at-requires-clause-place g c =
     let b = (goal.at.edit_at-requires-clause-place g c).After-find-j in
@@ -27,6 +30,7 @@ edit_at-requires-clause-place g c =
       one = omega arith;
       place = λ d. next _ _ (has g b d);
       fits = λ d. one_more _ c.args.put (page_small c.args.pages.now.items c.find-j.result.0 d (page g b) (sized g b));
+      room = λ e. absurd (never e);
     }
 
 pub edit_at-requires-clause-filled : goal.edit_at-requires-clause-filled

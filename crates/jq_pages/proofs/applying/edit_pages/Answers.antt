@@ -52,10 +52,29 @@ near g c h z q m =
 
 pub returns-in_err-made-clause-edits : goal.returns-in_err-made-clause-edits
 returns-in_err-made-clause-edits g c =
-    let b = (goal.at.returns-in_err-made-clause-edits g c).After-run_edit in
-    ∥∥₁_map c.requires.held (λ h. let z = h.sized in
-    err_edit _ _ _ _ _ _ _ _ _ _ _ _ (changed_err _ c.from_residual-in_err-made.ensures.0) (near g b h.holds z)
-    (rises_end g.S.Steps.seen c.args.pages.now.items c.args.j c.args.i c.args.cut c.index-page.result.now (option_to_list c.args.put) _ _ c.requires.place.page c.index-page.ensures (place g b) (all g b)))
+    let r = g.S.Steps.fold c.args.steps.now in
+    let s = g.S.Steps.seen c.args.first.now in
+    let e = g.S.Steps.seen c.kept_after-entry.result.now in
+    let ps = c.args.pages.now.items in
+    let j = c.args.j in
+    let i = c.args.i in
+    let cut = c.args.cut in
+    let put = option_to_list c.args.put in
+    let page = c.index-page.result.now in
+    let later = c.pages_after-after.ensures ∙ ap (drop (j + 1)) c.deref-2.ensures.value in
+    let place' = subst (λ z. i + cut ≤ length z.inputs.items) (sym c.index-page.ensures) (c.requires.place.place page) in
+    let fits' = subst (λ z. length z.inputs.items + length put ≤ 64 + cut) (sym c.index-page.ensures) (c.requires.place.fits page) in
+    let entry' = c.kept_after-entry.ensures ∙ ap (λ z. kept_of g.S.Steps.seen s (take j z)) c.deref.ensures.value in
+    let to' =
+    subst₂ (λ (n : List Val) ps. (t : ℕ) → t ≤ length ps → MeetsAt g.S.Steps.seen r (state_after r e (put_at page.inputs.items i n cut)) (g.S.Steps.seen page.exit) ps t → Rises (g.S.Steps.starts c.args.steps.now) (g.S.Steps.starts c.run_edit.new.steps) (((i + length n) + length (drop (i + cut) page.inputs.items)) + count_in (take t ps) + 1))
+    c.slice_of-new.ensures later c.run_edit.ensures.rises_to in
+    let all' =
+    subst₂ (λ (n : List Val) ps. Rises (g.S.Steps.starts c.args.steps.now) (g.S.Steps.starts c.run_edit.new.steps) (((i + length n) + length (drop (i + cut) page.inputs.items)) + count_in ps + 1))
+    c.slice_of-new.ensures later c.run_edit.ensures.rises in
+    ∥∥₁_map c.requires.held (λ h.
+    err_edit _ _ _ _ _ _ _ _ _ _ _ _ (changed_err _ c.from_residual.ensures.0)
+    (λ q m. rises_near g.S.Steps.seen r s e ps j i cut page put q _ _ place' (end_near g.S.Steps.seen r s e ps j i cut page put q c.requires.place.page c.index-page.ensures place' fits' h.holds h.sized entry' m) to')
+    (rises_end g.S.Steps.seen ps j i cut page put _ _ c.requires.place.page c.index-page.ensures place' all'))
 
 run : (g : _) (c : After-deref-6 g) → IsRunOf g.S.Steps.seen (g.S.Steps.fold c.args.steps.now) (g.S.Steps.seen c.kept_after-entry.result.now) (put_at c.index-page.result.now.inputs.items c.args.i (option_to_list c.args.put) c.args.cut) c.in_ok-made.made.run
 run g c = subst (λ (n : List Val). IsRunOf g.S.Steps.seen (g.S.Steps.fold c.args.steps.now) (g.S.Steps.seen c.kept_after-entry.result.now) (put_at c.index-page.result.now.inputs.items c.args.i n c.args.cut) c.in_ok-made.made.run) c.slice_of-new.ensures c.in_ok-made.ensures.run
@@ -89,7 +108,7 @@ sized g c z = done_sized c.args.pages.now.items c.install.new.pages.items c.args
 
 pub sum_again-requires-clause-others : goal.sum_again-requires-clause-others
 sum_again-requires-clause-others g c =
-    subst₂ (λ (z : List _) n. IsIndexBut c.args.groups.now.items z (c.args.j / 128) ((c.args.j + n) / 128 + 1)) (sym c.deref-6.ensures.value) (sym (c.len-2.ensures ∙ c.in_ok-made.made.runs.ok.0))
+    subst₂ (λ (z : List _) n. IsIndexBut c.args.groups.now.items z (c.args.j / 128) ((c.args.j + n) / 128 + 1)) (sym c.deref-6.ensures.value) (sym (c.len.ensures ∙ c.in_ok-made.made.runs.ok.0))
     (index_installed c.args.groups.now.items c.args.pages.now.items c.install.new.pages.items c.args.j c.args.i (option_to_list c.args.put) c.args.cut c.in_ok-made.made.run c.in_ok-made.made.runs.items c.install.ensures c.requires.place.page c.requires.index)
 
 pub sum_again-requires-clause-few : goal.sum_again-requires-clause-few
@@ -117,7 +136,7 @@ one_on : (j n : ℕ) → (j + n) + 1 ≡ (j + 1) + n
 one_on j n = omega arith
 
 total : (g : _) (c : After-deref-6 g) → (c.args.k - c.args.i) + c.measure-old.result ≡ count_in (take ((c.args.j + 1) + length c.in_ok-made.made.runs.items) c.args.pages.now.items)
-total g c = ap (λ n. n + c.measure-old.result) (before g c ∙ ap (λ z. count_in (take c.args.j z)) (sym c.deref-3.ensures.value)) ∙ c.measure-old.ensures ∙ ap₂ (λ n z. count_in (take ((c.args.j + n) + 1) z)) (c.len-2.ensures ∙ c.in_ok-made.made.runs.ok.0) c.deref-3.ensures.value ∙ ap (λ n. count_in (take n c.args.pages.now.items)) (one_on c.args.j (length c.in_ok-made.made.runs.items))
+total g c = ap (λ n. n + c.measure-old.result) (before g c ∙ ap (λ z. count_in (take c.args.j z)) (sym c.deref-3.ensures.value)) ∙ c.measure-old.ensures ∙ ap₂ (λ n z. count_in (take ((c.args.j + n) + 1) z)) (c.len.ensures ∙ c.in_ok-made.made.runs.ok.0) c.deref-3.ensures.value ∙ ap (λ n. count_in (take n c.args.pages.now.items)) (one_on c.args.j (length c.in_ok-made.made.runs.items))
 
 short : (g : _) (c : After-deref-6 g) → (t : ℕ) → t ≤ length (drop (c.args.j + 1) c.args.pages.now.items) → MeetsAt g.S.Steps.seen (g.S.Steps.fold c.args.steps.now) (state_after (g.S.Steps.fold c.args.steps.now) (g.S.Steps.seen c.kept_after-entry.result.now) (put_at c.index-page.result.now.inputs.items c.args.i (option_to_list c.args.put) c.args.cut)) (g.S.Steps.seen c.index-page.result.now.exit) (drop (c.args.j + 1) c.args.pages.now.items) t → length c.in_ok-made.made.runs.items ≤ t
 short g c =

@@ -9,8 +9,8 @@ use Rattle.jq_pages.proofs.Edits.{same_default}
 use Rattle.jq_pages.proofs.Filled.{filled_but, opened_but, halved_filled}
 use Rattle.jq_pages.proofs.Divided.{opened_holds, halved_inputs, halved_holds, halved_sized, halved_later, halved_within, halved_fits, later_within, later_fits, later_rise, halved_pieces, full_place}
 use Rattle.jq_pages.proofs.Groups.{index_put}
-use Rattle.jq_pages.proofs.rooms.make_room.Goals as goal
-use Rattle.jq_pages.proofs.rooms.make_room.Goals.{In_ok-split_page, After-cut_groups-2}
+use Rattle.jq_pages.proofs.rooms.find_room.Goals as goal
+use Rattle.jq_pages.proofs.rooms.find_room.Goals.{In_ok-split_page, After-cut_groups-2}
 
 full : (n m i : ℕ) → n ≡ m → 64 ≤ n → m ≤ 64 → i + 1 ≡ 64 → m ≡ i + 1
 full n m i a b c d = omega arith

@@ -1,6 +1,5 @@
 use Rattle.std.proofs.Common.{◌∙◌}
 use Rattle.std.proofs.Math.Logic.{∥∥₁_elim}
-use Rattle.jv_data.specs.View.{view}
 use Rattle.jq_pages.specs.private.Reruns.{inputs_in, pieces_in}
 use Rattle.jq_pages.proofs.Public.{joined_pages, pieces_of}
 use Rattle.jq_pages.proofs.Sets.{sets}
