@@ -1,7 +1,9 @@
 // Edits: what they change, and how often they start a step.
 use crate::bounds::{Fold, edit_values, is_within, least_meeting, next_edit, states};
 use crate::samples::{Digits, Largest, Sums};
-use crate::shown::{Edit, applied, change, changed, numbers, ones, shown, start, written};
+use crate::shown::{
+    Edit, applied, change, changed, inputs_of, numbers, ones, shown, start, written,
+};
 use jq_pages::{Change, Last, Pages, Refusal, Steps};
 use jv_data::{NoMemory, Val};
 use std::alloc::Global;
@@ -147,6 +149,7 @@ fn pieces_by_number(rt: HostRuntime) -> Result<(), Fail> {
     assert_eq!(&rt; piece.out.as_slice(), b"3".as_slice());
     assert!(&rt; piece.err.is_empty() && piece.last == Last::Truthy && !piece.failed);
     assert!(&rt; pages.piece(2).is_none());
+    assert_eq!(&rt; pages.into_steps().count, 2);
     Ok(())
 }
 
@@ -157,32 +160,54 @@ fn stops_where_the_states_meet(rt: HostRuntime) -> Result<(), Fail> {
     let mut pages = start(alloc, sums(alloc), ones(alloc, 1000)?)?;
     assert_eq!(&rt;
         changed(&mut pages, Edit::Replace(70, 1)),
-        Ok(change(64, 64, 64, false))
+        Ok(change(48, 48, 48, false))
     );
-    assert_eq!(&rt; pages.steps().count(), 1064);
+    assert_eq!(&rt; pages.steps().count(), 1048);
+    fill_second(&rt, &mut pages)?;
+    assert_eq!(&rt; pages.steps().count(), 1952);
+    // The second page is full, and the next one has room before its first input.
     assert_eq!(&rt;
-        changed(&mut pages, Edit::Insert(64, 0)),
-        Ok(change(64, 0, 1, false))
+        changed(&mut pages, Edit::Insert(112, 0)),
+        Ok(change(112, 48, 49, false))
     );
-    assert_eq!(&rt; pages.steps().count(), 1065);
+    assert_eq!(&rt; pages.steps().count(), 2001);
     assert_eq!(&rt;
-        changed(&mut pages, Edit::Insert(100, 0)),
-        Ok(change(97, 32, 33, false))
+        changed(&mut pages, Edit::Insert(60, 0)),
+        Ok(change(48, 32, 33, false))
     );
-    assert_eq!(&rt; pages.steps().count(), 1130);
+    assert_eq!(&rt; pages.steps().count(), 2066);
     assert_eq!(&rt;
         changed(&mut pages, Edit::Replace(990, 2)),
-        Ok(change(962, 40, 40, true))
+        Ok(change(978, 40, 40, true))
     );
-    assert_eq!(&rt; pages.steps().count(), 1170);
+    assert_eq!(&rt; pages.steps().count(), 2106);
     assert_eq!(&rt;
         changed(&mut pages, Edit::Replace(990, 1)),
-        Ok(change(962, 40, 40, true))
+        Ok(change(978, 40, 40, true))
     );
     assert_eq!(&rt;
         changed(&mut pages, Edit::Replace(0, 2)),
-        Ok(change(0, 1002, 1002, true))
+        Ok(change(0, 1018, 1018, true))
     );
+    Ok(())
+}
+
+// A start leaves room in each page: 16 insertions into the second one run it alone, and divide no page.
+fn fill_second<S: Steps>(
+    rt: &(impl Abort + AllocGlobal),
+    pages: &mut Pages<S>,
+) -> Result<(), Fail> {
+    let count = pages.page_count();
+    for i in 0..16u64 {
+        let size = 48 + i;
+        assert_eq!(rt;
+            changed(pages, Edit::Insert(64, 0)),
+            Ok(change(48, size, size + 1, false)),
+            "{i}"
+        );
+    }
+    assert_eq!(rt; pages.page_count(), count);
+    assert_eq!(rt; pages.page(1).len(), 64);
     Ok(())
 }
 
@@ -203,20 +228,20 @@ fn stops_at_a_later_page(rt: HostRuntime) -> Result<(), Fail> {
     assert_eq!(&rt; pages.steps().count(), 1002);
     assert_eq!(&rt;
         changed(&mut pages, Edit::Replace(0, 5)),
-        Ok(change(0, 256, 256, false))
+        Ok(change(0, 240, 240, false))
     );
-    assert_eq!(&rt; pages.steps().count(), 1258);
+    assert_eq!(&rt; pages.steps().count(), 1242);
     assert_eq!(&rt;
         changed(&mut pages, Edit::Replace(990, 4)),
         Ok(change(960, 40, 40, false))
     );
-    assert_eq!(&rt; pages.steps().count(), 1298);
+    assert_eq!(&rt; pages.steps().count(), 1282);
     assert_eq!(&rt; pages.tail().out.as_slice(), b"9".as_slice());
     assert_eq!(&rt;
         changed(&mut pages, Edit::Replace(200, 8)),
         Ok(change(192, 808, 808, true))
     );
-    assert_eq!(&rt; pages.steps().count(), 2107);
+    assert_eq!(&rt; pages.steps().count(), 2091);
     assert_eq!(&rt; pages.tail().out.as_slice(), b"8".as_slice());
     Ok(())
 }
@@ -265,6 +290,11 @@ fn agrees<S: Steps>(
         assert_eq!(rt;
             all.as_slice(),
             fresh(alloc, fold, &values)?.as_slice(),
+            "{round}"
+        );
+        assert_eq!(rt;
+            inputs_of(alloc, pages)?.as_slice(),
+            values.as_slice(),
             "{round}"
         );
     }

@@ -53,17 +53,17 @@ fn compare<S: Steps>(
 // pages. A number from 100 on halts, and a negative one writes nothing or fails.
 const LINES: [(Edit, u64); 14] = [
     (Edit::Replace(0, -1), 1),
-    (Edit::Replace(8_191, 7), 1),
-    (Edit::Replace(8_192, -2), 1),
-    (Edit::Insert(8_192, 5), 70),
+    (Edit::Replace(6_143, 7), 1),
+    (Edit::Replace(6_144, -2), 1),
+    (Edit::Insert(6_144, 5), 70),
     (Edit::Insert(20_070, 4), 1),
     (Edit::Remove(0), 65),
     (Edit::Insert(0, 6), 3),
-    (Edit::Replace(16_384, 120), 1),
+    (Edit::Replace(12_288, 120), 1),
     (Edit::Remove(9_000), 300),
-    (Edit::Insert(12_000, 8), 200),
+    (Edit::Insert(11_000, 8), 200),
     (Edit::Replace(19_000, 300), 1),
-    (Edit::Remove(16_300), 150),
+    (Edit::Remove(12_200), 150),
     (Edit::Insert(16_000, 1), 1),
     (Edit::Replace(19_700, -9), 1),
 ];
@@ -100,7 +100,7 @@ fn small_pages_are_joined(rt: HostRuntime) -> Result<(), Fail> {
     let alloc = rt.alloc();
     let mut values = counting(alloc, 6_400)?;
     let mut pages = start(alloc, Digits { alloc, count: 0 }, numbers(alloc, &values)?)?;
-    assert_eq!(&rt; pages.page_count(), 100);
+    assert_eq!(&rt; pages.page_count(), 134);
     // 63 of 64 inputs are removed, from the last to the first.
     for i in 0..6_400u64 {
         let k = 6_399u64.wrapping_sub(i);

@@ -48,7 +48,7 @@ fn at_most_a_million(rt: HostRuntime) -> Result<(), Fail> {
         changed(&mut pages, Edit::Remove(999_999)),
         Ok(change(999_999, 1, 0, false))
     );
-    // This page is full and is divided.
+    // This page has room.
     assert_eq!(&rt;
         changed(&mut pages, Edit::Insert(123_500, 3)),
         Ok(change(123_500, 0, 1, false))

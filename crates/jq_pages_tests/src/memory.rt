@@ -117,6 +117,9 @@ fn make_all<S: Steps>(
     Ok(())
 }
 
+// They fill the first page, so that a later insertion divides it.
+const FIRST: [Edit; 16] = [Edit::Insert(5, 1); 16];
+
 const LINES: [Edit; 8] = [
     Edit::Replace(1, 5),
     Edit::Insert(0, 4),
@@ -144,7 +147,8 @@ fn value_after(i: u64) -> Option<u64> {
 #[test]
 fn sums_again(rt: HostRuntime) -> Result<(), Fail> {
     let alloc = rt.alloc();
-    let mut pages = start_again(alloc, Sums { alloc, count: 0 }, 130)?;
+    let mut pages = start_again(alloc, Sums { alloc, count: 0 }, 114)?;
+    make_all(&rt, &mut pages, &FIRST)?;
     make_all(&rt, &mut pages, &LINES)?;
     let mut sum: u64 = 0;
     let mut want = mix_silence(0);
@@ -159,7 +163,8 @@ fn sums_again(rt: HostRuntime) -> Result<(), Fail> {
 #[test]
 fn digits_again(rt: HostRuntime) -> Result<(), Fail> {
     let alloc = rt.alloc();
-    let mut pages = start_again(alloc, Digits { alloc, count: 0 }, 130)?;
+    let mut pages = start_again(alloc, Digits { alloc, count: 0 }, 114)?;
+    make_all(&rt, &mut pages, &FIRST)?;
     make_all(&rt, &mut pages, &LINES)?;
     let mut want = mix_silence(0);
     for i in 0..133u64 {
@@ -175,7 +180,8 @@ fn digits_again(rt: HostRuntime) -> Result<(), Fail> {
 #[test]
 fn largest_again(rt: HostRuntime) -> Result<(), Fail> {
     let alloc = rt.alloc();
-    let mut pages = start_again(alloc, Largest { alloc, count: 0 }, 130)?;
+    let mut pages = start_again(alloc, Largest { alloc, count: 0 }, 114)?;
+    make_all(&rt, &mut pages, &FIRST)?;
     make_all(&rt, &mut pages, &LINES)?;
     let mut most: u64 = 0;
     let mut want = mix_fields(0, b"[", b"", Last::Falsy, false);

@@ -14,6 +14,19 @@ pub(crate) fn shown<S: Steps>(alloc: Global, pages: &Pages<S>) -> Result<Vec<u8>
     Ok(out)
 }
 
+// The numbers among the inputs, page by page.
+pub(crate) fn inputs_of<S: Steps>(alloc: Global, pages: &Pages<S>) -> Result<Vec<i64>, NoMemory> {
+    let mut all = Vec::new(alloc);
+    for j in 0..pages.page_count() {
+        for value in pages.inputs(j) {
+            if let Val::Num(n) = value {
+                all.push(*n)?;
+            }
+        }
+    }
+    Ok(all)
+}
+
 // What the fold wrote: the pieces of `begin`, of all inputs and of `close`.
 pub(crate) fn written<S: Steps>(alloc: Global, pages: &Pages<S>) -> Result<Vec<u8>, NoMemory> {
     let mut out = Vec::new(alloc);
