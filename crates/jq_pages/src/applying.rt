@@ -1,11 +1,11 @@
 // An edit of the pages. All steps run before anything changes, and what they gave is then put in place without memory.
-ghost use Rattle.std.specs.Prelude.{◌≡◌, ◌+◌, ◌<◌, ◌≤◌, ◌^◌, [], ◌∷◌, length, take, IfOk, IsTrue, IsFalse};
+ghost use Rattle.std.specs.Prelude.{◌≡◌, ℕ, ◌+◌, ◌<◌, ◌≤◌, ◌^◌, [], ◌∷◌, length, take, IfOk, IsTrue, IsFalse};
 ghost use Rattle.std.specs.Option.{option_to_list};
 ghost use Rattle.jq_pages.specs.Folds.{Rises};
 ghost use Rattle.jq_pages.specs.Pieces.{PieceView, piece_view};
 ghost use Rattle.jq_pages.specs.private.Reruns.{Holds, count_in};
-ghost use Rattle.jq_pages.specs.private.Groups.{IsIndex};
-ghost use Rattle.jq_pages.specs.private.Pages.{all_pieces, IsFilled, IsFilledBut, IsHeld, IsPlace, IsSized};
+ghost use Rattle.jq_pages.specs.private.Groups.{IsFew, IsIndex, group_pages};
+ghost use Rattle.jq_pages.specs.private.Pages.{all_inputs, all_pieces, IsFilled, IsFilledBut, IsHeld, IsPlace, IsSized};
 ghost use Rattle.jq_pages.specs.private.Edits.{IsOneEdit, IsPagesEdit, changed};
 ghost use Rattle.jq_pages.specs.private.Cuts.{AreSplices};
 
@@ -18,12 +18,31 @@ use crate::lists::{piece_slice, slice_of};
 use crate::merging::merge;
 use crate::page::Page;
 use crate::pieces::Piece;
-use crate::placing::{drop_empty, install, install_one, measure, pages_after, replace_tail};
+use crate::placing::{drop_empty, exchange, exchange_one, measure, pages_after};
 use crate::rooms::make_room;
 use crate::running::run_one;
+use crate::splices::Splices;
 use crate::steps::Steps;
 use jv_data::{NoMemory, Val};
 use std::alloc::Global;
+
+/// What an edit took out of the pages: the removed input, and the old pieces and states in exchange for what was run, or the one old
+/// piece.
+#[derive(Drop)]
+pub(crate) enum Taken<T> {
+    Runs(Option<Val>, Made<T>),
+    One(Option<Val>, Option<Piece>),
+}
+
+fn edited_by(change: Change, splices: Splices) -> Edited
+    ensures { (result.change ≡ change) × (result.out ≡ splices.out) × (result.err ≡ splices.err) }
+{
+    Edited {
+        change,
+        out: splices.out,
+        err: splices.err,
+    }
+}
 
 // An edit at place `i` of page `j`. It runs this page, and the pages after it up to the first that ends in the state that it had.
 pub(crate) fn edit_pages<S: Steps>(
@@ -39,7 +58,7 @@ pub(crate) fn edit_pages<S: Steps>(
     i: usize,
     put: Option<Val>,
     cut: usize,
-) -> Result<Edited, NoMemory>
+) -> Result<(Edited, Taken<S::State>), NoMemory>
     requires place { IsPlace pages.old.items j i (length (option_to_list put)) cut }
     requires spot { count_in (take j pages.old.items) + i ≡ k }
     requires few { count_in pages.old.items < 2 ^ 32 }
@@ -59,28 +78,20 @@ pub(crate) fn edit_pages<S: Steps>(
     let new = slice_of(&put);
     let more = new.len();
     let after = pages_after(pages, j);
-    let made = run_edit(alloc, steps, entry, page, after, i, new, cut)?;
+    let mut made = run_edit(alloc, steps, entry, page, after, i, new, cut)?;
     let last = j + made.runs.len();
     let old = measure(pages, j, last + 1);
     let splices = splices_made(alloc, head, groups, pages, tail, j, &made)?;
-    let Made {
-        run,
-        runs,
-        tail: closing,
-    } = made;
-    install(pages, j, i, put, cut, run, runs);
-    let closed = replace_tail(tail, closing);
+    let closed = made.tail.is_some();
+    let value = exchange(pages, tail, j, i, put, cut, &mut made);
     sum_again(groups, pages, j, last);
-    Ok(Edited {
-        change: Change {
-            from: (k - i) as u64,
-            cut: old as u64,
-            put: (old + more - cut) as u64,
-            closed,
-        },
-        out: splices.out,
-        err: splices.err,
-    })
+    let change = Change {
+        from: (k - i) as u64,
+        cut: old as u64,
+        put: (old + more - cut) as u64,
+        closed,
+    };
+    Ok((edited_by(change, splices), Taken::Runs(value, made)))
 }
 
 // An edit at place `i` of page `j` if all states are equal: it runs this place alone. `k` is the place in the list.
@@ -96,7 +107,7 @@ fn edit_plain<S: Steps>(
     i: usize,
     put: Option<Val>,
     cut: usize,
-) -> Result<Edited, NoMemory>
+) -> Result<(Edited, Taken<S::State>), NoMemory>
     requires place { IsPlace pages.old.items j i (length (option_to_list put)) cut }
     requires spot { count_in (take j pages.old.items) + i ≡ k }
     requires few { count_in pages.old.items < 2 ^ 32 }
@@ -118,22 +129,19 @@ fn edit_plain<S: Steps>(
     let more = slice_of(&put).len();
     let piece = run_one(steps, state, &put)?;
     let splices = splices_one(alloc, head, groups, pages, j, i, cut, piece_slice(&piece))?;
-    install_one(pages, j, i, put, piece, cut);
+    let (value, old) = exchange_one(pages, j, i, put, piece, cut);
     sum_again(groups, pages, j, j);
-    Ok(Edited {
-        change: Change {
-            from: k as u64,
-            cut: cut as u64,
-            put: more as u64,
-            closed: false,
-        },
-        out: splices.out,
-        err: splices.err,
-    })
+    let change = Change {
+        from: k as u64,
+        cut: cut as u64,
+        put: more as u64,
+        closed: false,
+    };
+    Ok((edited_by(change, splices), Taken::One(value, old)))
 }
 
 // An edit at place `i` of page `j`, which is place `k` of the list.
-fn edit_either<S: Steps>(
+pub(crate) fn edit_either<S: Steps>(
     alloc: Global,
     steps: &mut S,
     head: &Piece,
@@ -146,7 +154,7 @@ fn edit_either<S: Steps>(
     i: usize,
     put: Option<Val>,
     cut: usize,
-) -> Result<Edited, NoMemory>
+) -> Result<(Edited, Taken<S::State>), NoMemory>
     requires place { IsPlace pages.old.items j i (length (option_to_list put)) cut }
     requires spot { count_in (take j pages.old.items) + i ≡ k }
     requires few { count_in pages.old.items < 2 ^ 32 }
@@ -168,6 +176,25 @@ fn edit_either<S: Steps>(
     edit_pages(
         alloc, steps, head, first, groups, pages, tail, k, j, i, put, cut,
     )
+}
+
+// Removes page `j` if it has no input, or joins it to a neighbour if both are small. No input and no piece changes.
+pub(crate) fn settle<T: Drop>(
+    alloc: Global,
+    groups: &mut Vec<Group>,
+    pages: &mut Vec<Page<T>>,
+    j: usize,
+)
+    requires page { j < length pages.old.items }
+    requires index { IsIndex groups.old.items pages.old.items }
+    requires few { (g : ℕ) → IsFew (group_pages g pages.old.items) }
+    ensures inputs { all_inputs pages.new.items ≡ all_inputs pages.old.items }
+    ensures index { IsIndex groups.new.items pages.new.items }
+    ensures filled { IsFilledBut j pages.old.items → IsFilled pages.new.items }
+{
+    drop_empty(groups, pages, j);
+    merge(alloc, groups, pages, j);
+    add_groups(groups, pages);
 }
 
 // The same; then the page is removed if it has no input, or joined to a neighbour if both are small.
@@ -203,10 +230,8 @@ fn edit_at<S: Steps>(
     let result = edit_either(
         alloc, steps, head, first, groups, pages, tail, k, j, i, put, cut,
     );
-    drop_empty(groups, pages, j);
-    merge(alloc, groups, pages, j);
-    add_groups(groups, pages);
-    result
+    settle(alloc, groups, pages, j);
+    Ok(result?.0)
 }
 
 // Replaces an input, or removes it if there is no other.

@@ -16,6 +16,7 @@ mod laws;
 mod listing;
 mod lists;
 mod merging;
+mod moving;
 mod page;
 mod pages;
 mod pieces;

@@ -104,7 +104,7 @@ fn find_room<S: Steps>(
 }
 
 // Reserves memory for one more input of page `j`, and for its piece. Nothing else changes.
-fn reserve_in<T: Drop>(pages: &mut Vec<Page<T>>, j: usize) -> Result<(), NoMemory>
+pub(crate) fn reserve_in<T: Drop>(pages: &mut Vec<Page<T>>, j: usize) -> Result<(), NoMemory>
     requires { j < length pages.old.items }
     ensures same { map parts pages.new.items ≡ map parts pages.old.items }
     ensures room { OnOk result (HasRoom pages.new.items j) }
