@@ -1,13 +1,14 @@
 // An edit of the pages. All steps run before anything changes, and what they gave is then put in place without memory.
-ghost use Rattle.std.specs.Prelude.{◌≡◌, ℕ, ◌+◌, ◌<◌, ◌≤◌, ◌^◌, [], ◌∷◌, length, take, IfOk, IsTrue, IsFalse};
+ghost use Rattle.std.specs.Prelude.{◌≡◌, ℕ, ◌+◌, ◌<◌, ◌≤◌, ◌^◌, [], ◌∷◌, length, map, take, None, IfOk, OnErr, IsTrue, IsFalse};
 ghost use Rattle.std.specs.Option.{option_to_list};
 ghost use Rattle.jq_pages.specs.Folds.{Rises};
 ghost use Rattle.jq_pages.specs.Pieces.{PieceView, piece_view};
 ghost use Rattle.jq_pages.specs.private.Reruns.{Holds, count_in};
 ghost use Rattle.jq_pages.specs.private.Groups.{IsFew, IsIndex, group_pages};
-ghost use Rattle.jq_pages.specs.private.Pages.{all_inputs, all_pieces, IsFilled, IsFilledBut, IsHeld, IsPlace, IsSized};
-ghost use Rattle.jq_pages.specs.private.Edits.{IsOneEdit, IsPagesEdit, changed};
+ghost use Rattle.jq_pages.specs.private.Pages.{all_inputs, all_pieces, parts, IsFilled, IsFilledBut, IsHeld, IsPlace, IsSized};
+ghost use Rattle.jq_pages.specs.private.Edits.{IsOneEdit, IsPagesEdit, changed, changed_in};
 ghost use Rattle.jq_pages.specs.private.Cuts.{AreSplices};
+ghost use Rattle.jq_pages.specs.private.Moves.{HasPlace, restored, restored_tail};
 
 use crate::changes::{Change, Edited};
 use crate::cutting::{splices_made, splices_one};
@@ -64,12 +65,17 @@ pub(crate) fn edit_pages<S: Steps>(
     requires few { count_in pages.old.items < 2 ^ 32 }
     requires index { IsIndex groups.old.items pages.old.items }
     requires held { ∥ IsHeld S.seen (S.fold steps.old) (S.seen first.now) pages.old.items tail.old ∥₁ }
-    ensures edits { ∥ IsPagesEdit S.seen (S.fold steps.old) (S.seen first.now) pages.old.items pages.new.items (count_in (take j pages.old.items) + i) (option_to_list put) cut i (S.starts steps.old) (S.starts steps.new) (changed result) ∥₁ }
+    ensures edits { ∥ IsPagesEdit S.seen (S.fold steps.old) (S.seen first.now) pages.old.items pages.new.items (count_in (take j pages.old.items) + i) (option_to_list put) cut i (S.starts steps.old) (S.starts steps.new) (changed_in result) ∥₁ }
     ensures held { ∥ IsHeld S.seen (S.fold steps.new) (S.seen first.now) pages.new.items tail.new ∥₁ }
     ensures filled { IsFilledBut j pages.old.items → IsFilledBut j pages.new.items }
+    ensures unchanged { OnErr result (pages.new.items ≡ pages.old.items) }
+    ensures taken { cut ≡ 1 → put ≡ None → IfOk result (λ e. restored (map parts pages.new.items) j i e.1 ≡ map parts pages.old.items) }
+    ensures room { cut ≡ 1 → put ≡ None → IfOk result (λ e. HasPlace pages.new.items j e.1) }
+    ensures same_tail { OnErr result (tail.new ≡ tail.old) }
+    ensures old_tail { IfOk result (λ e. restored_tail tail.new e.1 ≡ tail.old) }
     ensures length { length pages.new.items ≡ length pages.old.items }
-    ensures tail { IfOk result (λ e. IsFalse e.change.closed → tail.new ≡ tail.old) }
-    ensures spliced { IfOk result (λ e. AreSplices e (piece_view head.now) (all_pieces pages.old.items) (all_pieces pages.new.items) (piece_view tail.old) (piece_view tail.new)) }
+    ensures tail { IfOk result (λ e. IsFalse e.0.change.closed → tail.new ≡ tail.old) }
+    ensures spliced { IfOk result (λ e. AreSplices e.0 (piece_view head.now) (all_pieces pages.old.items) (all_pieces pages.new.items) (piece_view tail.old) (piece_view tail.new)) }
     ensures same { S.fold steps.new ≡ S.fold steps.old }
     ensures index { IsIndex groups.new.items pages.new.items }
 {
@@ -115,14 +121,17 @@ fn edit_plain<S: Steps>(
     requires alike { (a b : S.Seen) → a ≡ b }
     requires holds { ∥ Holds S.seen (S.fold steps.old) (S.seen state.now) pages.old.items ∥₁ }
     requires sized { ∥ IsSized pages.old.items ∥₁ }
-    ensures edits { ∥ IsPagesEdit S.seen (S.fold steps.old) (S.seen state.now) pages.old.items pages.new.items k (option_to_list put) cut i (S.starts steps.old) (S.starts steps.new) (changed result) ∥₁ }
-    ensures one { IsOneEdit k (length (option_to_list put)) cut (S.starts steps.old) (S.starts steps.new) (changed result) }
+    ensures edits { ∥ IsPagesEdit S.seen (S.fold steps.old) (S.seen state.now) pages.old.items pages.new.items k (option_to_list put) cut i (S.starts steps.old) (S.starts steps.new) (changed_in result) ∥₁ }
+    ensures one { IsOneEdit k (length (option_to_list put)) cut (S.starts steps.old) (S.starts steps.new) (changed_in result) }
     ensures holds { ∥ Holds S.seen (S.fold steps.old) (S.seen state.now) pages.new.items ∥₁ }
     ensures sized { ∥ IsSized pages.new.items ∥₁ }
     ensures filled { IsFilledBut j pages.old.items → IsFilledBut j pages.new.items }
+    ensures unchanged { OnErr result (pages.new.items ≡ pages.old.items) }
+    ensures taken { cut ≡ 1 → put ≡ None → IfOk result (λ e. restored (map parts pages.new.items) j i e.1 ≡ map parts pages.old.items) }
+    ensures room { cut ≡ 1 → put ≡ None → IfOk result (λ e. HasPlace pages.new.items j e.1) }
     ensures length { length pages.new.items ≡ length pages.old.items }
-    ensures open { IfOk result (λ e. IsFalse e.change.closed) }
-    ensures spliced { IfOk result (λ e. (tail end : PieceView) → AreSplices e (piece_view head.now) (all_pieces pages.old.items) (all_pieces pages.new.items) tail end) }
+    ensures open { IfOk result (λ e. IsFalse e.0.change.closed) }
+    ensures spliced { IfOk result (λ e. (tail end : PieceView) → AreSplices e.0 (piece_view head.now) (all_pieces pages.old.items) (all_pieces pages.new.items) tail end) }
     ensures same { S.fold steps.new ≡ S.fold steps.old }
     ensures index { IsIndex groups.new.items pages.new.items }
 {
@@ -160,14 +169,19 @@ pub(crate) fn edit_either<S: Steps>(
     requires few { count_in pages.old.items < 2 ^ 32 }
     requires index { IsIndex groups.old.items pages.old.items }
     requires held { ∥ IsHeld S.seen (S.fold steps.old) (S.seen first.now) pages.old.items tail.old ∥₁ }
-    ensures edits { ∥ IsPagesEdit S.seen (S.fold steps.old) (S.seen first.now) pages.old.items pages.new.items k (option_to_list put) cut i (S.starts steps.old) (S.starts steps.new) (changed result) ∥₁ }
-    ensures one { IsTrue (S.fold steps.old).plain → IsOneEdit k (length (option_to_list put)) cut (S.starts steps.old) (S.starts steps.new) (changed result) }
+    ensures edits { ∥ IsPagesEdit S.seen (S.fold steps.old) (S.seen first.now) pages.old.items pages.new.items k (option_to_list put) cut i (S.starts steps.old) (S.starts steps.new) (changed_in result) ∥₁ }
+    ensures one { IsTrue (S.fold steps.old).plain → IsOneEdit k (length (option_to_list put)) cut (S.starts steps.old) (S.starts steps.new) (changed_in result) }
     ensures held { ∥ IsHeld S.seen (S.fold steps.new) (S.seen first.now) pages.new.items tail.new ∥₁ }
-    ensures tail { IfOk result (λ e. IsFalse e.change.closed → tail.new ≡ tail.old) }
-    ensures spliced { IfOk result (λ e. AreSplices e (piece_view head.now) (all_pieces pages.old.items) (all_pieces pages.new.items) (piece_view tail.old) (piece_view tail.new)) }
+    ensures tail { IfOk result (λ e. IsFalse e.0.change.closed → tail.new ≡ tail.old) }
+    ensures spliced { IfOk result (λ e. AreSplices e.0 (piece_view head.now) (all_pieces pages.old.items) (all_pieces pages.new.items) (piece_view tail.old) (piece_view tail.new)) }
     ensures same { S.fold steps.new ≡ S.fold steps.old }
     ensures index { IsIndex groups.new.items pages.new.items }
     ensures filled { IsFilledBut j pages.old.items → IsFilledBut j pages.new.items }
+    ensures unchanged { OnErr result (pages.new.items ≡ pages.old.items) }
+    ensures taken { cut ≡ 1 → put ≡ None → IfOk result (λ e. restored (map parts pages.new.items) j i e.1 ≡ map parts pages.old.items) }
+    ensures room { cut ≡ 1 → put ≡ None → IfOk result (λ e. HasPlace pages.new.items j e.1) }
+    ensures same_tail { OnErr result (tail.new ≡ tail.old) }
+    ensures old_tail { IfOk result (λ e. restored_tail tail.new e.1 ≡ tail.old) }
     ensures length { length pages.new.items ≡ length pages.old.items }
 {
     if steps.plain() {

@@ -1,5 +1,15 @@
 // A move: a removal and an insertion, of which both are made or neither. What the removal took out stays at hand until the insertion
 // is made; if that is refused, it is put back, which needs no memory.
+ghost use Rattle.std.specs.Prelude.{◌≡◌, ◌+◌, ◌<◌, ◌≤◌, ◌^◌, ◌∷◌, [], length, map, take, slice_index_or, IfOk, OnErr, IsTrue};
+ghost use Rattle.jv_data.specs.View.{view};
+ghost use Rattle.jq_pages.specs.Folds.{Rises};
+ghost use Rattle.jq_pages.specs.Pieces.{piece_view};
+ghost use Rattle.jq_pages.specs.private.Cuts.{AreSplices};
+ghost use Rattle.jq_pages.specs.private.Groups.{IsIndex};
+ghost use Rattle.jq_pages.specs.private.Moves.{HasPlace, restored, restored_tail};
+ghost use Rattle.jq_pages.specs.private.Pages.{all_inputs, all_pieces, parts, IsFilled, IsHeld};
+ghost use Rattle.jq_pages.specs.private.Reruns.{count_in};
+
 use crate::applying::{Taken, edit_either, settle};
 use crate::changes::Edited;
 use crate::grouping::{Group, find, sum_again};
@@ -19,7 +29,11 @@ struct Spot {
 }
 
 // A copy of the input at a place, which shares what it holds.
-fn copy_of<T>(pages: &[Page<T>], spot: Spot) -> Result<Val, NoMemory> {
+fn copy_of<T>(pages: &[Page<T>], spot: Spot) -> Result<Val, NoMemory>
+    requires page { spot.page < length pages.now }
+    requires at { (d : Page T) → spot.at < length (slice_index_or pages.now spot.page d).inputs.items }
+    ensures { IfOk result (λ v. (d : Page T) (w : Val) → view v ≡ view (slice_index_or (slice_index_or pages.now spot.page d).inputs.items spot.at w)) }
+{
     match pages[spot.page].inputs[spot.at].clone() {
         Ok(value) => Ok(value),
         Err(_) => Err(NoMemory),
@@ -33,7 +47,12 @@ fn put_back<T: Drop>(
     tail: &mut Piece,
     spot: Spot,
     taken: Taken<T>,
-) {
+)
+    requires place { HasPlace pages.old.items spot.page taken }
+    requires within { (d : Page T) → spot.at ≤ length (slice_index_or pages.old.items spot.page d).inputs.items }
+    ensures pages { map parts pages.new.items ≡ restored (map parts pages.old.items) spot.page spot.at taken }
+    ensures tail { tail.new ≡ restored_tail tail.old taken }
+{
     let mut last = spot.page;
     match taken {
         Taken::Runs(value, mut made) => {
