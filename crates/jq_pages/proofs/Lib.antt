@@ -13,3 +13,4 @@ pub mod Cuts
 pub mod Groups
 pub mod Joined
 pub mod Parts
+pub mod Moves

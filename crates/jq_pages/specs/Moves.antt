@@ -4,9 +4,10 @@ use Rattle.std.specs.List as list
 use Rattle.jv_meaning.specs.Value.{Value}
 use Rattle.jq_pages.specs.Changes.{IsChange, IsMeeting}
 use Rattle.jq_pages.specs.Edits.{Reason, insert, remove, no_place, edited, after, with_inputs}
-use Rattle.jq_pages.specs.Folds.{Folded, Rises}
+use Rattle.jq_pages.specs.Folds.{Folded, Rises, all}
 use Rattle.jq_pages.specs.Splices.{IsSpliced}
-use Rattle.jq_pages.specs.declared.changes.Edited.{Edited}
+use Rattle.jq_pages.specs.Totals.{totals}
+use Rattle.jq_pages.specs.declared.changes.Moved.{Moved}
 use Rattle.jq_pages.specs.declared.refusals.Refusal.{Refusal}
 use Rattle.jq_pages.specs.declared.refusals.Refusal.TheVariants as refusal
 
@@ -31,13 +32,14 @@ pub record Halves {S : Type 0} (k l : ℕ) (old new : Folded S) : Type 0 where
   pub removed : after (remove k) old ≡ Ok middle
   pub inserted : after (insert l value) middle ≡ Ok new
 
--- The move as two edits, and what each of them changes: `first` is that of the removal, `second` that of the insertion.
-pub record IsMove {S : Type 0} (k l : ℕ) (first second : Edited) (old new : Folded S) : Type 0 where
+-- The move as two edits, what each of them changes, and the totals between them.
+pub record IsMove {S : Type 0} (k l : ℕ) (m : Moved) (old new : Folded S) : Type 0 where
   pub halves : Halves k l old new
-  pub removal : IsChange first.change (remove k) old halves.middle
-  pub insertion : IsChange second.change (insert l halves.value) halves.middle new
-  pub cut : IsSpliced first old halves.middle
-  pub put : IsSpliced second halves.middle new
+  pub removal : IsChange m.removal.change (remove k) old halves.middle
+  pub insertion : IsChange m.insertion.change (insert l halves.value) halves.middle new
+  pub cut : IsSpliced m.removal old halves.middle
+  pub put : IsSpliced m.insertion halves.middle new
+  pub between : m.between ≡ totals (all halves.middle)
 
 -- Each half may start the filter as often as the edit by itself. In a plain fold the moved input alone is run again.
 pub record IsRerunTwice {S : Type 0} (k l : ℕ) (old new : Folded S) (old_starts new_starts : ℕ) : Type 0 where

@@ -1,14 +1,15 @@
 // An edit of the pages. All steps run before anything changes, and what they gave is then put in place without memory.
-ghost use Rattle.std.specs.Prelude.{◌≡◌, ℕ, ◌+◌, ◌<◌, ◌≤◌, ◌^◌, [], ◌∷◌, length, map, take, None, IfOk, OnErr, IsTrue, IsFalse};
+ghost use Rattle.std.specs.Prelude.{◌≡◌, ◌+◌, ◌<◌, ◌≤◌, ◌^◌, [], ◌∷◌, length, map, take, None, IfOk, OnErr, IsTrue, IsFalse};
 ghost use Rattle.std.specs.Option.{option_to_list};
 ghost use Rattle.jq_pages.specs.Folds.{Rises};
 ghost use Rattle.jq_pages.specs.Pieces.{PieceView, piece_view};
 ghost use Rattle.jq_pages.specs.private.Reruns.{Holds, count_in};
-ghost use Rattle.jq_pages.specs.private.Groups.{IsFew, IsIndex, group_pages};
+ghost use Rattle.jq_pages.specs.private.Groups.{IsIndex};
 ghost use Rattle.jq_pages.specs.private.Pages.{all_inputs, all_pieces, parts, IsFilled, IsFilledBut, IsHeld, IsPlace, IsSized};
 ghost use Rattle.jq_pages.specs.private.Edits.{IsOneEdit, IsPagesEdit, changed, changed_in};
 ghost use Rattle.jq_pages.specs.private.Cuts.{AreSplices};
 ghost use Rattle.jq_pages.specs.private.Moves.{HasPlace, restored, restored_tail};
+ghost use Rattle.jq_pages.specs.declared.pieces.Piece.{Piece};
 
 use crate::changes::{Change, Edited};
 use crate::cutting::{splices_made, splices_one};
@@ -19,10 +20,9 @@ use crate::lists::{piece_slice, slice_of};
 use crate::merging::merge;
 use crate::page::Page;
 use crate::pieces::Piece;
-use crate::placing::{drop_empty, exchange, exchange_one, measure, pages_after};
+use crate::placing::{drop_empty, exchange, exchange_one, is_closed, measure, pages_after};
 use crate::rooms::make_room;
 use crate::running::run_one;
-use crate::splices::Splices;
 use crate::steps::Steps;
 use jv_data::{NoMemory, Val};
 use std::alloc::Global;
@@ -33,16 +33,6 @@ use std::alloc::Global;
 pub(crate) enum Taken<T> {
     Runs(Option<Val>, Made<T>),
     One(Option<Val>, Option<Piece>),
-}
-
-fn edited_by(change: Change, splices: Splices) -> Edited
-    ensures { (result.change ≡ change) × (result.out ≡ splices.out) × (result.err ≡ splices.err) }
-{
-    Edited {
-        change,
-        out: splices.out,
-        err: splices.err,
-    }
 }
 
 // An edit at place `i` of page `j`. It runs this page, and the pages after it up to the first that ends in the state that it had.
@@ -88,16 +78,20 @@ pub(crate) fn edit_pages<S: Steps>(
     let last = j + made.runs.len();
     let old = measure(pages, j, last + 1);
     let splices = splices_made(alloc, head, groups, pages, tail, j, &made)?;
-    let closed = made.tail.is_some();
+    let closed = is_closed(&made.tail);
     let value = exchange(pages, tail, j, i, put, cut, &mut made);
     sum_again(groups, pages, j, last);
-    let change = Change {
-        from: (k - i) as u64,
-        cut: old as u64,
-        put: (old + more - cut) as u64,
-        closed,
+    let edited = Edited {
+        change: Change {
+            from: (k - i) as u64,
+            cut: old as u64,
+            put: (old + more - cut) as u64,
+            closed,
+        },
+        out: splices.out,
+        err: splices.err,
     };
-    Ok((edited_by(change, splices), Taken::Runs(value, made)))
+    Ok((edited, Taken::Runs(value, made)))
 }
 
 // An edit at place `i` of page `j` if all states are equal: it runs this place alone. `k` is the place in the list.
@@ -129,6 +123,7 @@ fn edit_plain<S: Steps>(
     ensures unchanged { OnErr result (pages.new.items ≡ pages.old.items) }
     ensures taken { cut ≡ 1 → put ≡ None → IfOk result (λ e. restored (map parts pages.new.items) j i e.1 ≡ map parts pages.old.items) }
     ensures room { cut ≡ 1 → put ≡ None → IfOk result (λ e. HasPlace pages.new.items j e.1) }
+    ensures old_tail { IfOk result (λ e. (p : Piece) → restored_tail p e.1 ≡ p) }
     ensures length { length pages.new.items ≡ length pages.old.items }
     ensures open { IfOk result (λ e. IsFalse e.0.change.closed) }
     ensures spliced { IfOk result (λ e. (tail end : PieceView) → AreSplices e.0 (piece_view head.now) (all_pieces pages.old.items) (all_pieces pages.new.items) tail end) }
@@ -140,13 +135,17 @@ fn edit_plain<S: Steps>(
     let splices = splices_one(alloc, head, groups, pages, j, i, cut, piece_slice(&piece))?;
     let (value, old) = exchange_one(pages, j, i, put, piece, cut);
     sum_again(groups, pages, j, j);
-    let change = Change {
-        from: k as u64,
-        cut: cut as u64,
-        put: more as u64,
-        closed: false,
+    let edited = Edited {
+        change: Change {
+            from: k as u64,
+            cut: cut as u64,
+            put: more as u64,
+            closed: false,
+        },
+        out: splices.out,
+        err: splices.err,
     };
-    Ok((edited_by(change, splices), Taken::One(value, old)))
+    Ok((edited, Taken::One(value, old)))
 }
 
 // An edit at place `i` of page `j`, which is place `k` of the list.
@@ -193,16 +192,21 @@ pub(crate) fn edit_either<S: Steps>(
 }
 
 // Removes page `j` if it has no input, or joins it to a neighbour if both are small. No input and no piece changes.
-pub(crate) fn settle<T: Drop>(
+pub(crate) fn settle<S: Steps>(
     alloc: Global,
+    _steps: &S,
+    _first: &S::State,
     groups: &mut Vec<Group>,
-    pages: &mut Vec<Page<T>>,
+    pages: &mut Vec<Page<S::State>>,
+    _tail: &Piece,
     j: usize,
 )
     requires page { j < length pages.old.items }
     requires index { IsIndex groups.old.items pages.old.items }
-    requires few { (g : ℕ) → IsFew (group_pages g pages.old.items) }
+    requires held { ∥ IsHeld S.seen (S.fold _steps.now) (S.seen _first.now) pages.old.items _tail.now ∥₁ }
     ensures inputs { all_inputs pages.new.items ≡ all_inputs pages.old.items }
+    ensures pieces { all_pieces pages.new.items ≡ all_pieces pages.old.items }
+    ensures held { ∥ IsHeld S.seen (S.fold _steps.now) (S.seen _first.now) pages.new.items _tail.now ∥₁ }
     ensures index { IsIndex groups.new.items pages.new.items }
     ensures filled { IsFilledBut j pages.old.items → IsFilled pages.new.items }
 {
@@ -244,7 +248,7 @@ fn edit_at<S: Steps>(
     let result = edit_either(
         alloc, steps, head, first, groups, pages, tail, k, j, i, put, cut,
     );
-    settle(alloc, groups, pages, j);
+    settle(alloc, steps, first, groups, pages, tail, j);
     Ok(result?.0)
 }
 

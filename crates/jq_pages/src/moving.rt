@@ -1,31 +1,35 @@
 // A move: a removal and an insertion, of which both are made or neither. What the removal took out stays at hand until the insertion
 // is made; if that is refused, it is put back, which needs no memory.
-ghost use Rattle.std.specs.Prelude.{◌≡◌, ◌+◌, ◌<◌, ◌≤◌, ◌^◌, ◌∷◌, [], length, map, take, slice_index_or, IfOk, OnErr, IsTrue};
+ghost use Rattle.std.specs.Prelude.{◌≡◌, ℕ, ◌+◌, ◌<◌, ◌≤◌, ◌^◌, ◌∷◌, ◌++◌, [], length, map, take, slice_index_or, IfOk, OnErr, IsTrue, IsFalse};
 ghost use Rattle.jv_data.specs.View.{view};
 ghost use Rattle.jq_pages.specs.Folds.{Rises};
 ghost use Rattle.jq_pages.specs.Pieces.{piece_view};
+ghost use Rattle.jq_pages.specs.Totals.{totals};
 ghost use Rattle.jq_pages.specs.private.Cuts.{AreSplices};
+ghost use Rattle.jq_pages.specs.private.Edits.{IsOneEdit, IsPagesEdit, changed};
 ghost use Rattle.jq_pages.specs.private.Groups.{IsIndex};
 ghost use Rattle.jq_pages.specs.private.Moves.{HasPlace, restored, restored_tail};
-ghost use Rattle.jq_pages.specs.private.Pages.{all_inputs, all_pieces, parts, IsFilled, IsHeld};
+ghost use Rattle.jq_pages.specs.private.Pages.{all_inputs, all_pieces, parts, IsHeld};
 ghost use Rattle.jq_pages.specs.private.Reruns.{count_in};
 
 use crate::applying::{Taken, edit_either, settle};
-use crate::changes::Edited;
-use crate::grouping::{Group, find, sum_again};
+use crate::changes::{Edited, Moved};
+use crate::cutting::totals_with;
+use crate::grouping::{Group, cut_groups, find};
 use crate::page::Page;
 use crate::pieces::Piece;
 use crate::placing::{exchange, exchange_one};
 use crate::rooms::{make_room, reserve_in};
 use crate::steps::Steps;
+use crate::totals::Totals;
 use jv_data::{NoMemory, Val};
 use std::alloc::Global;
 
 /// The place of an input: its page, and its number there.
 #[derive(Clone, Copy)]
-struct Spot {
-    page: usize,
-    at: usize,
+pub(crate) struct Spot {
+    pub(crate) page: usize,
+    pub(crate) at: usize,
 }
 
 // A copy of the input at a place, which shares what it holds.
@@ -40,7 +44,17 @@ fn copy_of<T>(pages: &[Page<T>], spot: Spot) -> Result<Val, NoMemory>
     }
 }
 
-// Puts back what the removal at a place took out.
+// The totals of all pieces.
+fn totals_now<T>(head: &Piece, groups: &[Group], pages: &[Page<T>], tail: &Piece) -> Totals
+    requires index { IsIndex groups.now pages.now }
+    requires few { length (all_pieces pages.now) < 2 ^ 32 }
+    ensures { result ≡ totals (piece_view head.now ∷ (all_pieces pages.now ++ (piece_view tail.now ∷ []))) }
+{
+    let before = totals_with(head, groups, pages, pages.len());
+    before.and(Totals::of(tail))
+}
+
+// Puts back what the removal at a place took out. The sums of the groups are made again later.
 fn put_back<T: Drop>(
     groups: &mut Vec<Group>,
     pages: &mut Vec<Page<T>>,
@@ -50,20 +64,20 @@ fn put_back<T: Drop>(
 )
     requires place { HasPlace pages.old.items spot.page taken }
     requires within { (d : Page T) → spot.at ≤ length (slice_index_or pages.old.items spot.page d).inputs.items }
+    requires have { (d : Page T) → spot.at ≤ length (slice_index_or pages.old.items spot.page d).pieces.items.items }
     ensures pages { map parts pages.new.items ≡ restored (map parts pages.old.items) spot.page spot.at taken }
     ensures tail { tail.new ≡ restored_tail tail.old taken }
+    ensures groups { IsIndex groups.new.items pages.new.items }
 {
-    let mut last = spot.page;
+    cut_groups(groups, 0);
     match taken {
         Taken::Runs(value, mut made) => {
-            last += made.runs.len();
             let _none = exchange(pages, tail, spot.page, spot.at, value, 0, &mut made);
         }
         Taken::One(value, piece) => {
             let _none = exchange_one(pages, spot.page, spot.at, value, piece, 0);
         }
     }
-    sum_again(groups, pages, spot.page, last);
 }
 
 // Inserts an input at a place of a page that is not full.
@@ -78,7 +92,25 @@ fn insert_in<S: Steps>(
     l: usize,
     spot: Spot,
     value: Val,
-) -> Result<Edited, NoMemory> {
+) -> Result<Edited, NoMemory>
+    requires page { spot.page < length pages.old.items }
+    requires within { (d : Page S.State) → spot.at ≤ length (slice_index_or pages.old.items spot.page d).inputs.items }
+    requires fits { (d : Page S.State) → length (slice_index_or pages.old.items spot.page d).inputs.items + 1 ≤ 64 }
+    requires spot { count_in (take spot.page pages.old.items) + spot.at ≡ l }
+    requires few { count_in pages.old.items < 2 ^ 32 }
+    requires index { IsIndex groups.old.items pages.old.items }
+    requires held { ∥ IsHeld S.seen (S.fold steps.old) (S.seen first.now) pages.old.items tail.old ∥₁ }
+    ensures edits { ∥ IsPagesEdit S.seen (S.fold steps.old) (S.seen first.now) pages.old.items pages.new.items l (value ∷ []) 0 spot.at (S.starts steps.old) (S.starts steps.new) (changed result) ∥₁ }
+    ensures one { IsTrue (S.fold steps.old).plain → IsOneEdit l 1 0 (S.starts steps.old) (S.starts steps.new) (changed result) }
+    ensures held { ∥ IsHeld S.seen (S.fold steps.new) (S.seen first.now) pages.new.items tail.new ∥₁ }
+    ensures tail { IfOk result (λ e. IsFalse e.change.closed → tail.new ≡ tail.old) }
+    ensures spliced { IfOk result (λ e. AreSplices e (piece_view head.now) (all_pieces pages.old.items) (all_pieces pages.new.items) (piece_view tail.old) (piece_view tail.new)) }
+    ensures same { S.fold steps.new ≡ S.fold steps.old }
+    ensures index { IsIndex groups.new.items pages.new.items }
+    ensures unchanged { OnErr result (map parts pages.new.items ≡ map parts pages.old.items) }
+    ensures same_tail { OnErr result (tail.new ≡ tail.old) }
+    ensures place { OnErr result ((j : ℕ) (t : Taken S.State) → HasPlace pages.old.items j t → HasPlace pages.new.items j t) }
+{
     reserve_in(pages, spot.page)?;
     let (edited, _taken) = edit_either(
         alloc,
@@ -110,20 +142,26 @@ fn shift_in<S: Steps>(
     from: Spot,
     l: usize,
     to: Spot,
-) -> Result<(Edited, Edited), NoMemory> {
+) -> Result<Moved, NoMemory> {
     let value = copy_of(pages, from)?;
     let (removal, taken) = edit_either(
         alloc, steps, head, first, groups, pages, tail, k, from.page, from.at, None, 1,
     )?;
+    let between = totals_now(head, groups, pages, tail);
+    let starts = steps.count();
     match insert_in(alloc, steps, head, first, groups, pages, tail, l, to, value) {
-        Ok(insertion) => Ok((removal, insertion)),
+        Ok(insertion) => Ok(Moved {
+            removal,
+            between,
+            starts,
+            insertion,
+        }),
         Err(refused) => {
             put_back(groups, pages, tail, from, taken);
             Err(refused)
         }
     }
 }
-
 // Moves input `k` to place `l` of the shorter list. Room for it is made before it is removed.
 pub(crate) fn shift_at<S: Steps>(
     alloc: Global,
@@ -135,7 +173,7 @@ pub(crate) fn shift_at<S: Steps>(
     tail: &mut Piece,
     k: usize,
     l: usize,
-) -> Result<(Edited, Edited), NoMemory> {
+) -> Result<Moved, NoMemory> {
     let later = l >= k;
     let gap = if later { l + 1 } else { l };
     let (page, at) = make_room(alloc, steps, first, groups, pages, gap)?;
@@ -157,6 +195,6 @@ pub(crate) fn shift_at<S: Steps>(
         alloc, steps, head, first, groups, pages, tail, k, from, l, to,
     );
     let emptied = if result.is_ok() { from_page } else { page };
-    settle(alloc, groups, pages, emptied);
+    settle(alloc, steps, first, groups, pages, tail, emptied);
     result
 }

@@ -4,7 +4,7 @@ ghost use Rattle.jq_pages.specs.Edits.{most_inputs};
 
 use crate::applying::{change_at, insert_at};
 use crate::building::run_all;
-use crate::changes::Edited;
+use crate::changes::{Edited, Moved};
 use crate::cutting::totals_with;
 use crate::grouping::find;
 use crate::kept::Kept;
@@ -168,11 +168,12 @@ impl<S: Steps> Pages<S> {
 
     /// Moves an input: removes the one of number `k`, and inserts it at place `l` of the shorter list. The first answer is that of the
     /// removal, the second that of the insertion. If it is refused, nothing changed.
-    pub fn shift(&mut self, k: u64, l: u64) -> Result<(Edited, Edited), Refusal>
+    pub fn shift(&mut self, k: u64, l: u64) -> Result<Moved, Refusal>
         ensures moved { OnOk result (after_move k l (folded_of self.old) ≡ Ok (folded_of self.new)) }
-        ensures halves { IfOk result (λ m. IsMove k l m.0 m.1 (folded_of self.old) (folded_of self.new)) }
+        ensures halves { IfOk result (λ m. IsMove k l m (folded_of self.old) (folded_of self.new)) }
         ensures refused { IfErr result (λ refusal. IsMoveRefusal refusal (after_move k l (folded_of self.old))) }
         ensures unchanged { OnErr result (folded_of self.new ≡ folded_of self.old) }
+        ensures counted { IfOk result (λ m. (starts_of self.old ≤ m.starts) × (m.starts ≤ starts_of self.new)) }
         ensures started { IsMoveStarted k l (folded_of self.old) (starts_of self.old) (starts_of self.new) }
     {
         if k >= self.len() || l >= self.len() {

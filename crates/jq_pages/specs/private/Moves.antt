@@ -1,8 +1,8 @@
 -- A removal that is taken back.
-use Rattle.std.specs.Prelude.{◌≡◌, ℕ, ◌+◌, ◌<◌, ◌≤◌, List, [], ◌∷◌, ◌++◌, take, drop, length, slice_index_or, vec_capacity, Option, Some, None}
+use Rattle.std.specs.Prelude.{◌≡◌, ℕ, ◌+◌, ◌<◌, ◌≤◌, List, [], ◌∷◌, ◌++◌, take, drop, length, Option, Some, None}
 use Rattle.std.specs.Option.{option_to_list}
 use Rattle.jv_data.specs.declared.values.Val.{Val}
-use Rattle.jq_pages.specs.private.Pages.{HasRoom}
+use Rattle.jq_pages.specs.private.Pages.{HasInputRoom, HasRoom}
 use Rattle.jq_pages.specs.declared.applying.Taken.{Taken}
 use Rattle.jq_pages.specs.declared.applying.Taken.TheVariants as taken
 use Rattle.jq_pages.specs.declared.editing.Made.{Made}
@@ -44,5 +44,5 @@ restored_tail p (taken.One value piece) = p
 
 -- What an edit took out of the pages from page `j` on can be put back without memory.
 abbrev pub HasPlace : {T : Type 0} → List (Page T) → ℕ → Taken T → Type 0
-HasPlace ps j (taken.Runs value made) = (j + 1 + length made.runs.items ≤ length ps) × ((d : Page _) → length (slice_index_or ps j d).inputs.items + 1 ≤ vec_capacity (slice_index_or ps j d).inputs)
+HasPlace ps j (taken.Runs value made) = (j + 1 + length made.runs.items ≤ length ps) × HasInputRoom ps j
 HasPlace ps j (taken.One value piece) = (j < length ps) × HasRoom ps j
