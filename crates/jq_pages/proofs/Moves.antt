@@ -1,5 +1,5 @@
 -- A removal and its way back.
-use Rattle.std.proofs.Common.{◌≡◌, ℕ, zero, suc, ◌+◌, ◌-◌, ◌<◌, ◌≤◌, List, [], ◌∷◌, ◌++◌, length, take, drop, get_or, set, refl, sym, ◌∙◌, ap, ap₂, subst, map, arith, append_assoc, append-nil, length-drop, length-take-le, take-append-drop, take_all, drop_of_length-le, get_or-append-add, Option, None, Some, Result, Ok, Err, IsErr}
+use Rattle.std.proofs.Common.{◌≡◌, ℕ, zero, suc, ◌+◌, ◌-◌, ◌<◌, ◌≤◌, List, [], ◌∷◌, ◌++◌, length, take, drop, get_or, set, refl, sym, ◌∙◌, ap, ap₂, subst, map, add-one, arith, append_assoc, append-nil, length-drop, length-take-le, take-append-drop, take_all, drop_of_length-le, get_or-append-add, Option, None, Some, Result, Ok, Err, IsErr}
 use Rattle.std.proofs.lemmas.Grind.{take_at_read}
 use Rattle.std.proofs.lemmas.List.{drop-drop, get_or-drop, map-append, set-append_right}
 use Rattle.std.specs.Option.{option_to_list}
@@ -8,7 +8,10 @@ use Rattle.jq_pages.specs.private.Edits.{changed_in}
 use Rattle.jq_pages.specs.declared.changes.Edited.{Edited}
 use Rattle.jq_pages.specs.private.Moves.{Parts, other_tail, put_back_in, renewed_parts, restored, restored_from}
 use Rattle.jq_pages.specs.private.Pages.{parts}
+use Rattle.jq_pages.specs.private.Placed.{Installed, Resized, put_at}
 use Rattle.jq_pages.specs.private.Reruns.{renewed, run_in}
+use Rattle.jv_data.specs.View.{view}
+use Rattle.jq_pages.proofs.Filled.{installed_length}
 use Rattle.jq_pages.specs.declared.applying.Taken.{Taken}
 use Rattle.jq_pages.specs.declared.applying.Taken.TheVariants as taken
 use Rattle.jq_pages.specs.declared.editing.Made.{Made}
@@ -16,7 +19,7 @@ use Rattle.jq_pages.specs.declared.page.Page.{Page}
 use Rattle.jq_pages.specs.declared.page.Rerun.{Rerun}
 use Rattle.jq_pages.specs.declared.pieces.Piece.{Piece}
 use Rattle.jq_pages.proofs.Applied.{split_at}
-use Rattle.jq_pages.proofs.Edits.{around, drop_front, map_length, take_front}
+use Rattle.jq_pages.proofs.Edits.{around, drop_front, map_length, put_count, same_default, take_front}
 use Rattle.jq_pages.proofs.Reruns.{placed_length, placed_more, renewed_none}
 
 -- a list whose removed element is put back
@@ -191,3 +194,36 @@ swapped_all_runs ps rs ss from at l m e =
 pub changed_in_err : {A E : Type 0} (result : Result (Edited × A) E) → IsErr result → IsErr (changed_in result)
 changed_in_err (Ok e) h = h
 changed_in_err (Err x) h = h
+
+-- ---- the numbers of inputs of the pages
+
+renewed_size : {T : Type 0} (ps : List (Page T)) (rs : List (Rerun T)) (n : ℕ) (d : Page T) → length (get_or (renewed ps rs) n d).inputs.items ≡ length (get_or ps n d).inputs.items
+renewed_size [] rs n d = refl
+renewed_size (p ∷ ps) [] n d = refl
+renewed_size (p ∷ ps) (a ∷ rs) zero d = refl
+renewed_size (p ∷ ps) (a ∷ rs) (suc n) d = renewed_size ps rs n d
+
+placed_size : {T : Type 0} (ps : List (Page T)) (j : ℕ) (p : Page T) (rs : List (Rerun T)) (n : ℕ) (d : Page T) → j < length ps → ¬ (n ≡ j) → length (get_or (take j ps ++ (p ∷ renewed (drop (suc j) ps) rs)) n d).inputs.items ≡ length (get_or ps n d).inputs.items
+placed_size [] j p rs n d l ne = absurd (omega arith)
+placed_size (o ∷ os) zero p rs zero d l ne = absurd (ne refl)
+placed_size (o ∷ os) zero p rs (suc n) d l ne = renewed_size os rs n d
+placed_size (o ∷ os) (suc j) p rs zero d l ne = refl
+placed_size (o ∷ os) (suc j) p rs (suc n) d l ne = let l' : j < length os = omega arith in placed_size os j p rs n d l' (λ e. ne (ap suc e))
+
+resized_count : (i put n cut : ℕ) → i + cut ≤ n → ((i + put) + (n - (i + cut))) + cut ≡ n + put
+resized_count i put n cut l = omega arith
+
+pub resized_installed : {T : Type 0} (old new : List (Page T)) (j i cut : ℕ) (p : Page T) (put : List Val) (a : Rerun T) (rs : List (Rerun T)) (x : Installed old new j i put cut a rs) → j < length old → p ≡ get_or old j p → i + cut ≤ length p.inputs.items → Resized old new j (length put) cut
+resized_installed old new j i cut p put a rs x l e fits =
+    let q = x.page in
+    let same : get_or old j q ≡ p = same_default old j q p l ∙ sym e in
+    let le : j ≤ length old = omega arith in
+    let front : length (take j old) + 0 ≡ j = omega (arith, length-take-le j old le) in
+    let count : length q.inputs.items ≡ (i + length put) + (length p.inputs.items - (i + cut)) = sym (map_length view q.inputs.items) ∙ ap length x.inputs ∙ ap (λ (z : Page _). length (put_at z.inputs.items i put cut)) same ∙ put_count p.inputs.items put i cut fits in
+    record {
+      same = installed_length old new j i put cut a rs x l;
+      others = λ n d ne. ap (λ z. length (get_or z n d).inputs.items) (x.list ∙ ap (λ k. take j old ++ (q ∷ renewed (drop k old) rs)) (add-one j)) ∙ placed_size old j q rs n d l ne;
+      here = λ d.
+          let there : get_or new j d ≡ q = ap₂ (λ z k. get_or z k d) x.list (sym front) ∙ get_or-append-add (take j old) (q ∷ renewed (drop (j + 1) old) rs) 0 d in
+          ap (λ (z : Page _). length z.inputs.items + cut) there ∙ ap (λ n. n + cut) count ∙ resized_count i (length put) (length p.inputs.items) cut fits ∙ ap (λ (z : Page _). length z.inputs.items + length put) (e ∙ same_default old j p d l);
+    }

@@ -1,5 +1,5 @@
 // An edit of the pages. All steps run before anything changes, and what they gave is then put in place without memory.
-ghost use Rattle.std.specs.Prelude.{◌≡◌, ◌+◌, ◌<◌, ◌≤◌, ◌^◌, [], ◌∷◌, length, map, take, None, IfOk, OnErr, IsTrue, IsFalse};
+ghost use Rattle.std.specs.Prelude.{◌≡◌, ◌+◌, ◌<◌, ◌≤◌, ◌^◌, [], ◌∷◌, length, map, take, None, IfOk, OnErr, OnOk, IsTrue, IsFalse};
 ghost use Rattle.std.specs.Option.{option_to_list};
 ghost use Rattle.jq_pages.specs.Folds.{Rises};
 ghost use Rattle.jq_pages.specs.Pieces.{PieceView, piece_view};
@@ -8,6 +8,7 @@ ghost use Rattle.jq_pages.specs.private.Groups.{IsIndex};
 ghost use Rattle.jq_pages.specs.private.Pages.{all_inputs, all_pieces, parts, IsFilled, IsFilledBut, IsHeld, IsPlace, IsSized};
 ghost use Rattle.jq_pages.specs.private.Edits.{IsOneEdit, IsPagesEdit, changed, changed_in};
 ghost use Rattle.jq_pages.specs.private.Cuts.{AreSplices};
+ghost use Rattle.jq_pages.specs.private.Placed.{Resized};
 ghost use Rattle.jq_pages.specs.private.Moves.{HasPlace, restored, restored_tail};
 ghost use Rattle.jq_pages.specs.declared.pieces.Piece.{Piece};
 
@@ -64,6 +65,7 @@ pub(crate) fn edit_pages<S: Steps>(
     ensures same_tail { OnErr result (tail.new ≡ tail.old) }
     ensures old_tail { IfOk result (λ e. restored_tail tail.new e.1 ≡ tail.old) }
     ensures length { length pages.new.items ≡ length pages.old.items }
+    ensures resized { OnOk result (Resized pages.old.items pages.new.items j (length (option_to_list put)) cut) }
     ensures tail { IfOk result (λ e. IsFalse e.0.change.closed → tail.new ≡ tail.old) }
     ensures spliced { IfOk result (λ e. AreSplices e.0 (piece_view head.now) (all_pieces pages.old.items) (all_pieces pages.new.items) (piece_view tail.old) (piece_view tail.new)) }
     ensures same { S.fold steps.new ≡ S.fold steps.old }
@@ -125,6 +127,7 @@ fn edit_plain<S: Steps>(
     ensures room { cut ≡ 1 → put ≡ None → IfOk result (λ e. HasPlace pages.new.items j e.1) }
     ensures old_tail { IfOk result (λ e. (p : Piece) → restored_tail p e.1 ≡ p) }
     ensures length { length pages.new.items ≡ length pages.old.items }
+    ensures resized { OnOk result (Resized pages.old.items pages.new.items j (length (option_to_list put)) cut) }
     ensures open { IfOk result (λ e. IsFalse e.0.change.closed) }
     ensures spliced { IfOk result (λ e. (tail end : PieceView) → AreSplices e.0 (piece_view head.now) (all_pieces pages.old.items) (all_pieces pages.new.items) tail end) }
     ensures same { S.fold steps.new ≡ S.fold steps.old }
@@ -182,6 +185,7 @@ pub(crate) fn edit_either<S: Steps>(
     ensures same_tail { OnErr result (tail.new ≡ tail.old) }
     ensures old_tail { IfOk result (λ e. restored_tail tail.new e.1 ≡ tail.old) }
     ensures length { length pages.new.items ≡ length pages.old.items }
+    ensures resized { OnOk result (Resized pages.old.items pages.new.items j (length (option_to_list put)) cut) }
 {
     if steps.plain() {
         return edit_plain(alloc, steps, head, first, groups, pages, k, j, i, put, cut);

@@ -68,6 +68,7 @@ impl PieceList {
     pub(crate) fn reserve_one(&mut self) -> Result<(), NoMemory>
         ensures items { self.new.items.items ≡ self.old.items.items }
         ensures room { OnOk result (length self.new.items.items + 1 ≤ vec_capacity self.new.items) }
+        ensures capacity { vec_capacity self.old.items ≤ vec_capacity self.new.items }
     {
         self.items.reserve(1)?;
         Ok(())

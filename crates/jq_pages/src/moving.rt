@@ -1,6 +1,6 @@
 // A move: a removal and an insertion, of which both are made or neither. What the removal took out stays at hand until the insertion
 // is made; if that is refused, it is put back, which needs no memory.
-ghost use Rattle.std.specs.Prelude.{◌≡◌, ℕ, ◌+◌, ◌<◌, ◌≤◌, ◌^◌, ◌∷◌, ◌++◌, [], length, map, take, slice_index_or, IfOk, OnErr, IsTrue, IsFalse};
+ghost use Rattle.std.specs.Prelude.{◌≡◌, ℕ, ◌+◌, ◌<◌, ◌≤◌, ◌^◌, ◌∷◌, ◌++◌, [], length, map, take, slice_index_or, IfOk, OnErr, OnOk, IsTrue, IsFalse};
 ghost use Rattle.jv_data.specs.View.{view};
 ghost use Rattle.jq_pages.specs.Folds.{Rises};
 ghost use Rattle.jq_pages.specs.Pieces.{piece_view};
@@ -8,8 +8,9 @@ ghost use Rattle.jq_pages.specs.Totals.{totals};
 ghost use Rattle.jq_pages.specs.private.Cuts.{AreSplices};
 ghost use Rattle.jq_pages.specs.private.Edits.{IsOneEdit, IsPagesEdit, changed};
 ghost use Rattle.jq_pages.specs.private.Groups.{IsIndex};
-ghost use Rattle.jq_pages.specs.private.Moves.{HasPlace, restored, restored_tail};
-ghost use Rattle.jq_pages.specs.private.Pages.{all_inputs, all_pieces, parts, IsHeld};
+ghost use Rattle.jq_pages.specs.private.Moves.{HasPlace, IsShift, IsShiftStart, IsTarget, restored, restored_tail};
+ghost use Rattle.jq_pages.specs.private.Pages.{all_inputs, all_pieces, parts, IsFilled, IsFilledBut, IsHeld, IsPlace};
+ghost use Rattle.jq_pages.specs.private.Placed.{Resized};
 ghost use Rattle.jq_pages.specs.private.Reruns.{count_in};
 
 use crate::applying::{Taken, edit_either, settle};
@@ -109,6 +110,7 @@ fn insert_in<S: Steps>(
     ensures index { IsIndex groups.new.items pages.new.items }
     ensures unchanged { OnErr result (map parts pages.new.items ≡ map parts pages.old.items) }
     ensures same_tail { OnErr result (tail.new ≡ tail.old) }
+    ensures resized { OnOk result (Resized pages.old.items pages.new.items spot.page 1 0) }
     ensures place { OnErr result ((j : ℕ) (t : Taken S.State) → HasPlace pages.old.items j t → HasPlace pages.new.items j t) }
 {
     reserve_in(pages, spot.page)?;
@@ -142,7 +144,23 @@ fn shift_in<S: Steps>(
     from: Spot,
     l: usize,
     to: Spot,
-) -> Result<Moved, NoMemory> {
+) -> Result<Moved, NoMemory>
+    requires from { IsPlace pages.old.items from.page from.at 0 1 }
+    requires to { IsTarget pages.old.items from.page to.page to.at l }
+    requires spot { count_in (take from.page pages.old.items) + from.at ≡ k }
+    requires few { count_in pages.old.items < 2 ^ 32 }
+    requires index { IsIndex groups.old.items pages.old.items }
+    requires held { ∥ IsHeld S.seen (S.fold steps.old) (S.seen first.now) pages.old.items tail.old ∥₁ }
+    ensures shifted { IfOk result (λ m. ∥ IsShift S.seen (S.fold steps.old) (S.seen first.now) (piece_view head.now) pages.old.items pages.new.items tail.old tail.new k l m ∥₁) }
+    ensures counted { IfOk result (λ m. (S.starts steps.old ≤ m.starts) × (m.starts ≤ S.starts steps.new)) }
+    ensures back { OnErr result (map parts pages.new.items ≡ map parts pages.old.items) }
+    ensures filled { IsFilledBut to.page pages.old.items → OnOk result (IsFilledBut from.page pages.new.items) }
+    ensures held { ∥ IsHeld S.seen (S.fold steps.new) (S.seen first.now) pages.new.items tail.new ∥₁ }
+    ensures index { IsIndex groups.new.items pages.new.items }
+    ensures same { S.fold steps.new ≡ S.fold steps.old }
+    ensures started { ∥ IsShiftStart (S.fold steps.old) (S.seen first.now) (all_inputs pages.old.items) k l from.at to.at (S.starts steps.old) (S.starts steps.new) ∥₁ }
+    ensures plain { IsTrue (S.fold steps.old).plain → Rises (S.starts steps.old) (S.starts steps.new) 1 }
+{
     let value = copy_of(pages, from)?;
     let (removal, taken) = edit_either(
         alloc, steps, head, first, groups, pages, tail, k, from.page, from.at, None, 1,
@@ -162,6 +180,7 @@ fn shift_in<S: Steps>(
         }
     }
 }
+
 // Moves input `k` to place `l` of the shorter list. Room for it is made before it is removed.
 pub(crate) fn shift_at<S: Steps>(
     alloc: Global,
@@ -173,7 +192,23 @@ pub(crate) fn shift_at<S: Steps>(
     tail: &mut Piece,
     k: usize,
     l: usize,
-) -> Result<Moved, NoMemory> {
+) -> Result<Moved, NoMemory>
+    requires k { k < count_in pages.old.items }
+    requires l { l < count_in pages.old.items }
+    requires few { count_in pages.old.items < 2 ^ 32 }
+    requires index { IsIndex groups.old.items pages.old.items }
+    requires held { ∥ IsHeld S.seen (S.fold steps.old) (S.seen first.now) pages.old.items tail.old ∥₁ }
+    requires filled { ∥ IsFilled pages.old.items ∥₁ }
+    ensures shifted { IfOk result (λ m. ∥ IsShift S.seen (S.fold steps.old) (S.seen first.now) (piece_view head.now) pages.old.items pages.new.items tail.old tail.new k l m ∥₁) }
+    ensures counted { IfOk result (λ m. (S.starts steps.old ≤ m.starts) × (m.starts ≤ S.starts steps.new)) }
+    ensures unchanged { OnErr result (all_inputs pages.new.items ≡ all_inputs pages.old.items) }
+    ensures held { ∥ IsHeld S.seen (S.fold steps.new) (S.seen first.now) pages.new.items tail.new ∥₁ }
+    ensures index { IsIndex groups.new.items pages.new.items }
+    ensures filled { ∥ IsFilled pages.new.items ∥₁ }
+    ensures same { S.fold steps.new ≡ S.fold steps.old }
+    ensures started { ∥ IsShiftStart (S.fold steps.old) (S.seen first.now) (all_inputs pages.old.items) k l 64 64 (S.starts steps.old) (S.starts steps.new) ∥₁ }
+    ensures plain { IsTrue (S.fold steps.old).plain → Rises (S.starts steps.old) (S.starts steps.new) 1 }
+{
     let later = l >= k;
     let gap = if later { l + 1 } else { l };
     let (page, at) = make_room(alloc, steps, first, groups, pages, gap)?;

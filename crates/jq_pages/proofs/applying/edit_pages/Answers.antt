@@ -12,7 +12,7 @@ use Rattle.jq_pages.specs.private.Pages.{all_inputs, all_pieces, IsSized, IsHeld
 use Rattle.jq_pages.specs.private.Placed.{put_at}
 use Rattle.jq_pages.specs.private.Edits.{Meets}
 use Rattle.jv_data.specs.declared.values.Val.{Val}
-use Rattle.jq_pages.proofs.Moves.{changed_in_err}
+use Rattle.jq_pages.proofs.Moves.{changed_in_err, resized_installed}
 use Rattle.jq_pages.proofs.Applied.{end_near, rises_near, far_near, rises_end, done_holds, done_inputs, done_sized, done_tail, done_stop, done_change, err_edit, ok_edit, old_count, sized_at, far_of}
 use Rattle.jq_pages.specs.private.Cuts.{AreCut, closing_if, made_pieces}
 use Rattle.jq_pages.proofs.Cuts.{done_splices}
@@ -252,3 +252,8 @@ returns-clause-room g d z n =
       subst (λ n. c.args.j + 1 + n ≤ length c.exchange-value.new.pages.items) (sym c.exchange-value.ensures.runs) (runs_there c.args.j _ _ _ _ (fit g c) (length-drop (c.args.j + 1) c.args.pages.now.items) c.requires.place.page same),
       c.exchange-value.ensures.room z n,
     )
+
+pub returns-clause-resized : goal.returns-clause-resized
+returns-clause-resized g d =
+    let c = (goal.at.returns-clause-resized g d).After-deref-6 in
+    resized_installed c.args.pages.now.items c.exchange-value.new.pages.items c.args.j c.args.i c.args.cut c.index-page.result.now (option_to_list c.args.put) c.in_ok-made.made.run c.in_ok-made.made.runs.items c.exchange-value.ensures.pages c.requires.place.page c.index-page.ensures (place g (start g c))

@@ -1,4 +1,4 @@
-use Rattle.std.proofs.Common.{◌≡◌, ℕ, ◌+◌, ◌/◌, ◌<◌, ◌≤◌, ◌∷◌, ◌++◌, List, length, get_or, take, drop, map, ap, arith, sym, ◌∙◌, subst, subst₂, false, refl}
+use Rattle.std.proofs.Common.{◌≡◌, ℕ, ◌+◌, ◌/◌, ◌<◌, ◌≤◌, [], ◌∷◌, ◌++◌, List, length, get_or, take, drop, map, ap, arith, sym, ◌∙◌, subst, subst₂, false, refl}
 use Rattle.std.proofs.Math.Logic.{∥∥₁_elim, ∥∥₁_map}
 use Rattle.std.proofs.Props.{props}
 use Rattle.std.specs.Option.{option_to_list}
@@ -10,13 +10,13 @@ use Rattle.jq_pages.specs.private.Pages.{all_pieces, IsSized}
 use Rattle.jq_pages.specs.Pieces.{piece_view}
 use Rattle.jv_data.specs.View.{view}
 use Rattle.jq_pages.proofs.Applied.{here, page_small}
-use Rattle.jq_pages.proofs.Moves.{changed_in_err}
+use Rattle.jq_pages.proofs.Moves.{changed_in_err, resized_installed}
 use Rattle.jq_pages.proofs.Cuts.{one_splices}
 use Rattle.jq_pages.proofs.Edits.{map_length, pieces_count, pieces_length}
 use Rattle.jq_pages.proofs.Divided.{page_pieces}
 use Rattle.jq_pages.proofs.Filled.{set_but}
 use Rattle.jq_pages.proofs.Groups.{few_group, index_replaced}
-use Rattle.jq_pages.proofs.Plain.{plain_edit, plain_holds, plain_refused, plain_sized, one_spot, option_few, not_closed}
+use Rattle.jq_pages.proofs.Plain.{as_installed, plain_edit, plain_holds, plain_refused, plain_sized, one_spot, option_few, not_closed}
 use Rattle.jq_pages.proofs.applying.edit_plain.Goals as goal
 use Rattle.jq_pages.proofs.applying.edit_plain.Goals.{After-exchange_one-value}
 
@@ -117,3 +117,8 @@ returns-clause-spliced g c t e =
     refl (ap (λ (z : List Val). length z) c.slice_of-more.ensures ∙ sym (piece_count g b)) refl refl
     (subst (λ z. AreCut c.in_ok-splices.splices.out c.in_ok-splices.splices.err (piece_view c.args.head.now ∷ (all_pieces (take j ps) ++ take c.args.i (pieces_in z))) (take c.args.cut (drop c.args.i (pieces_in z))) (map piece_view (option_to_list c.in_ok-piece.piece))) d
     (subst₂ (λ (z : List _) (y : List _). AreCut c.in_ok-splices.splices.out c.in_ok-splices.splices.err (piece_view c.args.head.now ∷ (all_pieces (take j z) ++ take c.args.i (pieces_in (get_or z j p)))) (take c.args.cut (drop c.args.i (pieces_in (get_or z j p)))) (map piece_view y)) c.deref-2.ensures.value c.piece_slice.ensures (c.in_ok-splices.ensures p))))
+
+pub returns-clause-resized : goal.returns-clause-resized
+returns-clause-resized g c =
+    let b = (goal.at.returns-clause-resized g c).After-exchange_one-value in
+    resized_installed c.args.pages.now.items c.exchange_one-value.new.pages.items c.args.j c.args.i c.args.cut (here c.requires.place).0 (option_to_list c.args.put) _ [] (as_installed c.args.pages.now.items c.exchange_one-value.new.pages.items c.args.j c.args.i c.args.cut (option_to_list c.args.put) (option_to_list c.in_ok-piece.piece) c.exchange_one-value.ensures.pages) c.requires.place.page (here c.requires.place).1 (place g b)
