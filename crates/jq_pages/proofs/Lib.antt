@@ -14,3 +14,4 @@ pub mod Groups
 pub mod Joined
 pub mod Parts
 pub mod Moves
+pub mod Shifts
