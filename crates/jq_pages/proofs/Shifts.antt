@@ -229,3 +229,17 @@ count_less ps qs j f y l =
     let c : take (length ps) qs ≡ qs = take_all (length ps) qs whole in
     let d : count_in (take (length ps) qs) ≡ count_in qs = ap count_in c in
     omega arith
+
+fits_in : (at n : ℕ) → at ≤ n → n + 1 ≤ 64 → at ≤ 64
+fits_in at n l m = omega arith
+
+fits_there : (at n : ℕ) → at + 1 ≤ n → n + 1 ≤ 64 → at ≤ 64
+fits_there at n l m = omega arith
+
+pub target_small : {T : Type 0} (ps : List (Page T)) (j page at l : ℕ) → IsTarget ps j page at l → at ≤ 64
+target_small ps j page at l x =
+    let d = (element ps page x.has).0 in
+    elim (same_or page j) [
+      | inl e ↦ fits_there _ _ (x.here d e) (x.fits d)
+      | inr k ↦ fits_in _ _ (x.within d k) (x.fits d)
+    ]

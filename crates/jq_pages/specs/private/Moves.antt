@@ -87,11 +87,12 @@ pub record IsShift {T S : Type 0} (seen : T → S) (r : Fold S) (s : S) (head : 
   pub close : Piece
   pub held : IsHeld seen r s middle close
   pub before : ℕ
+  pub starts : ℕ
   pub after : ℕ
-  pub removal : IsPagesEdit {E = NoMemory} seen r s old middle k [] 1 64 before m.starts (Ok m.removal.change)
-  pub insertion : IsPagesEdit {E = NoMemory} seen r s middle new l (value ∷ []) 0 64 m.starts after (Ok m.insertion.change)
-  pub one_removal : IsTrue r.plain → IsOneEdit {E = NoMemory} k 0 1 before m.starts (Ok m.removal.change)
-  pub one_insertion : IsTrue r.plain → IsOneEdit {E = NoMemory} l 1 0 m.starts after (Ok m.insertion.change)
+  pub removal : IsPagesEdit {E = NoMemory} seen r s old middle k [] 1 64 before starts (Ok m.removal.change)
+  pub insertion : IsPagesEdit {E = NoMemory} seen r s middle new l (value ∷ []) 0 64 starts after (Ok m.insertion.change)
+  pub one_removal : IsTrue r.plain → IsOneEdit {E = NoMemory} k 0 1 before starts (Ok m.removal.change)
+  pub one_insertion : IsTrue r.plain → IsOneEdit {E = NoMemory} l 1 0 starts after (Ok m.insertion.change)
   pub first_tail : IsFalse m.removal.change.closed → close ≡ tail
   pub last_tail : IsFalse m.insertion.change.closed → end ≡ close
   pub cut : AreSplices m.removal head (all_pieces old) (all_pieces middle) (piece_view tail) (piece_view close)

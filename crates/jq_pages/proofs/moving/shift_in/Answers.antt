@@ -1,4 +1,4 @@
-use Rattle.std.proofs.Common.{◌≡◌, ℕ, ◌+◌, ◌<◌, ◌≤◌, ◌∙◌, ap, get_or, refl, sym, subst, subst₂, length, List, arith}
+use Rattle.std.proofs.Common.{◌≡◌, ℕ, ◌+◌, ◌<◌, ◌≤◌, ◌∷◌, ◌++◌, [], ◌∙◌, Some, IsTrue, ap, get_or, refl, sym, subst, subst₂, length, List, arith}
 use Rattle.std.proofs.Math.Logic.{∥∥₁_elim, ∥∥₁_map, ∥∥₁_prop}
 use Rattle.std.proofs.Props.{props}
 use Rattle.jq_pages.specs.private.Pages.{all_pieces, IsHeld}
@@ -6,13 +6,18 @@ use Rattle.jq_pages.specs.private.Reruns.{count_in}
 use Rattle.jv_data.specs.View.{view}
 use Rattle.jv_data.specs.declared.values.Val.{Val}
 use Rattle.jq_pages.specs.private.Moves.{restored, restored_tail}
+use Rattle.jq_pages.specs.Pieces.{piece_view}
+use Rattle.jq_pages.specs.Totals.{totals}
 use Rattle.jq_pages.proofs.Applied.{moved_edit, page_spot, room_edit}
 use Rattle.jq_pages.proofs.Divided.{page_pieces}
 use Rattle.jq_pages.proofs.Edits.{pieces_length}
 use Rattle.jq_pages.proofs.Parts.{parts_at, parts_length}
 use Rattle.jq_pages.proofs.Plain.{still_rise}
-use Rattle.jq_pages.proofs.Shifts.{count_less, filled_moved, parts_held, shift_both, shift_first, shift_silent, shift_there, target_spot}
+use Rattle.jq_pages.proofs.Shifts.{count_less, filled_moved, parts_held, shift_both, shift_first, shift_silent, shift_there, target_small, target_spot}
 use Rattle.jq_pages.proofs.moving.shift_in.Goals as goal
+
+next : (at n : ℕ) → at + 1 ≤ n → at < n
+next at n l = omega arith
 
 below : (at n m k : ℕ) → at + 1 ≤ n → m + 1 ≡ n + 0 → k ≡ m → at ≤ k
 below at n m k l e f = omega arith
@@ -75,4 +80,29 @@ returns-in-Err-clause-held g c =
     ∥∥₁_map c.requires.held (λ h. subst₂ (λ r k. IsHeld g.S.Steps.seen r (g.S.Steps.seen c.args.first.now) c.put_back.new.pages.items k) (sym (c.insert_in.ensures.same ∙ c.edit_either.ensures.same)) (sym t) (parts_held g.S.Steps.seen _ _ c.args.pages.now.items c.put_back.new.pages.items _ e h))
 
 pub returns-in-Ok-clause-shifted : goal.returns-in-Ok-clause-shifted
-returns-in-Ok-clause-shifted g c = ?
+returns-in-Ok-clause-shifted g c =
+    let ps = c.args.pages.now.items in
+    let mid = c.edit_either.new.pages.items in
+    let same = c.edit_either.ensures.same in
+    let w = shift_there ps c.args.from.page c.args.from.at c.args.k c.requires.from c.requires.spot in
+    let v = c.in_ok-value.value in
+    let copied = subst (λ (z : List _). (d : _) (u : Val) → view c.in_ok-value.value ≡ view (get_or (get_or z c.args.from.page d).inputs.items c.args.from.at u)) c.deref.ensures.value c.in_ok-value.ensures in
+    ∥∥₁_elim c.requires.held ∥∥₁_prop (λ h. ∥∥₁_elim c.edit_either.ensures.held ∥∥₁_prop (λ k. ∥∥₁_elim c.in_ok-removal.ensures.edits ∥∥₁_prop (λ x. ∥∥₁_map c.in-Ok.ensures.edits (λ y. record {
+      value = v;
+      there = w.1 ∙ ap Some (sym (w.2 v copied));
+      middle = mid;
+      close = c.edit_either.new.tail;
+      held = subst (λ r. IsHeld g.S.Steps.seen r (g.S.Steps.seen c.args.first.now) mid c.edit_either.new.tail) same k;
+      before = g.S.Steps.starts c.args.steps.now;
+      starts = g.S.Steps.starts c.edit_either.new.steps;
+      after = g.S.Steps.starts c.insert_in.new.steps;
+      removal = room_edit _ _ _ _ _ _ _ _ _ _ _ _ _ _ _ (still_rise _ _) (page_spot ps c.args.from.page c.args.from.at c.requires.from.page (λ d. next _ _ (c.requires.from.place d)) ∣ h.sized ∣₁) x;
+      insertion = room_edit _ _ _ _ _ _ _ _ _ _ _ _ _ _ _ (still_rise _ _) (target_small ps c.args.from.page c.args.to.page c.args.to.at c.args.l c.requires.to) (moved_edit _ _ _ _ _ _ _ _ _ _ _ _ _ _ _ _ _ _ same refl refl refl y);
+      one_removal = c.in_ok-removal.ensures.one;
+      one_insertion = λ p. c.in-Ok.ensures.one (subst (λ r. IsTrue r.plain) (sym same) p);
+      first_tail = c.in_ok-removal.ensures.tail;
+      last_tail = c.in-Ok.ensures.tail;
+      cut = c.in_ok-removal.ensures.spliced;
+      put = c.in-Ok.ensures.spliced;
+      between = c.totals_now-between.ensures ∙ ap (λ (z : List _). totals (piece_view c.args.head.now ∷ (all_pieces z ++ (piece_view c.edit_either.new.tail ∷ [])))) c.deref-3.ensures.value;
+    }))))
