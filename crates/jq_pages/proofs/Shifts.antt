@@ -243,3 +243,33 @@ target_small ps j page at l x =
       | inl e ↦ fits_there _ _ (x.here d e) (x.fits d)
       | inr k ↦ fits_in _ _ (x.within d k) (x.fits d)
     ]
+
+-- ---- the room for the insertion
+
+page_end : {T : Type 0} (ps : List (Page T)) (j at n : ℕ) → IsPlace ps j at 0 1 → n < j → count_in (take (n + 1) ps) ≤ count_in (take j ps) + at
+page_end ps j at n x l =
+    let m : n + 1 ≤ j = omega arith in
+    let a : count_in (take (n + 1) ps) ≤ count_in (take j ps) = count_take ps (n + 1) j m in
+    omega arith
+
+at_end : {T : Type 0} (ps : List (Page T)) (j at more cut : ℕ) → IsPlace ps j at more cut → count_in (take j ps) + (at + cut) ≤ count_in (take (j + 1) ps)
+at_end ps j at more cut x =
+    let q = here x in
+    let l : at + cut ≤ length q.0.inputs.items = subst (λ z. at + cut ≤ length z.inputs.items) (sym q.1) (x.place q.0) in
+    let a : count_in (take (j + 1) ps) ≡ count_in (take j ps) + length q.0.inputs.items = count_more ps j q.0 x.page q.1 in
+    omega arith
+
+-- Room for a place after input `k` is not before its page.
+pub room_later : {T : Type 0} (ps : List (Page T)) (j i page at k l : ℕ) → IsPlace ps j i 0 1 → IsPlace ps page at 1 0 → count_in (take j ps) + i ≡ k → k ≤ l → count_in (take page ps) + at ≡ l + 1 → page < j → ⊥
+room_later ps j i page at k l x y e m f b =
+    let a : count_in (take page ps) + (at + 0) ≤ count_in (take (page + 1) ps) = at_end ps page at 1 0 y in
+    let c : count_in (take (page + 1) ps) ≤ count_in (take j ps) + i = page_end ps j i page x b in
+    omega arith
+
+-- Room for a place before input `k` is not after its page.
+pub room_earlier : {T : Type 0} (ps : List (Page T)) (j i page at k l : ℕ) → IsPlace ps j i 0 1 → count_in (take j ps) + i ≡ k → l < k → count_in (take page ps) + at ≡ l → j < page → ⊥
+room_earlier ps j i page at k l x e m f b =
+    let n : j + 1 ≤ page = omega arith in
+    let a : count_in (take j ps) + (i + 1) ≤ count_in (take (j + 1) ps) = at_end ps j i 0 1 x in
+    let c : count_in (take (j + 1) ps) ≤ count_in (take page ps) = count_take ps (j + 1) page n in
+    omega arith

@@ -181,6 +181,32 @@ fn shift_in<S: Steps>(
     }
 }
 
+// The place before the removal of input `k` that is place `l` after it.
+fn gap_of(k: usize, l: usize) -> usize
+    requires { l < 2 ^ 32 }
+    ensures later { k ≤ l → result ≡ l + 1 }
+    ensures earlier { l < k → result ≡ l }
+{
+    if l >= k { l + 1 } else { l }
+}
+
+// The place of the insertion, by that of the room for it: the removal moves the later inputs of its page by one.
+fn target_of<T>(pages: &[Page<T>], from: Spot, k: usize, l: usize, page: usize, at: usize) -> Spot
+    requires from { IsPlace pages.now from.page from.at 0 1 }
+    requires room { IsPlace pages.now page at 1 0 }
+    requires spot { count_in (take from.page pages.now) + from.at ≡ k }
+    requires later { k ≤ l → count_in (take page pages.now) + at ≡ l + 1 }
+    requires earlier { l < k → count_in (take page pages.now) + at ≡ l }
+    ensures target { IsTarget pages.now from.page result.page result.at l }
+    ensures page { result.page ≡ page }
+{
+    if l >= k && page == from.page {
+        Spot { page, at: at - 1 }
+    } else {
+        Spot { page, at }
+    }
+}
+
 // Moves input `k` to place `l` of the shorter list. Room for it is made before it is removed.
 pub(crate) fn shift_at<S: Steps>(
     alloc: Global,
@@ -209,27 +235,24 @@ pub(crate) fn shift_at<S: Steps>(
     ensures started { ∥ IsShiftStart (S.fold steps.old) (S.seen first.now) (all_inputs pages.old.items) k l 64 64 (S.starts steps.old) (S.starts steps.new) ∥₁ }
     ensures plain { IsTrue (S.fold steps.old).plain → Rises (S.starts steps.old) (S.starts steps.new) 1 }
 {
-    let later = l >= k;
-    let gap = if later { l + 1 } else { l };
+    let gap = gap_of(k, l);
     let (page, at) = make_room(alloc, steps, first, groups, pages, gap)?;
     let (from_page, from_at) = find(groups, pages, k);
     let from = Spot {
         page: from_page,
         at: from_at,
     };
-    // The removal moves the later inputs of its page by one.
-    let to = Spot {
-        page,
-        at: if later && page == from_page {
-            at - 1
-        } else {
-            at
-        },
-    };
-    let result = shift_in(
+    let to = target_of(pages, from, k, l, page, at);
+    match shift_in(
         alloc, steps, head, first, groups, pages, tail, k, from, l, to,
-    );
-    let emptied = if result.is_ok() { from_page } else { page };
-    settle(alloc, steps, first, groups, pages, tail, emptied);
-    result
+    ) {
+        Ok(moved) => {
+            settle(alloc, steps, first, groups, pages, tail, from_page);
+            Ok(moved)
+        }
+        Err(refused) => {
+            settle(alloc, steps, first, groups, pages, tail, page);
+            Err(refused)
+        }
+    }
 }
