@@ -273,3 +273,35 @@ room_earlier ps j i page at k l x e m f b =
     let a : count_in (take j ps) + (i + 1) ≤ count_in (take (j + 1) ps) = at_end ps j i 0 1 x in
     let c : count_in (take (j + 1) ps) ≤ count_in (take page ps) = count_take ps (j + 1) page n in
     omega arith
+
+no_more : (n m : ℕ) → n + 0 ≤ m → n ≤ m
+no_more n m l = omega arith
+
+no_fit : (n : ℕ) → n + 1 ≤ 64 + 0 → n + 1 ≤ 64
+no_fit n l = omega arith
+
+below_or : (n m : ℕ) → n ≤ m → ¬ (n ≡ m) → n < m
+below_or n m l ne = elim (order m n) [ inl a ↦ absurd (ne (omega arith)) | inr b ↦ b ]
+
+earlier_place : (a at i k l n : ℕ) → a + i ≡ k → a + at ≡ l → l < k → i + 1 ≤ n → at + 1 ≤ n
+earlier_place a at i k l n e f b c = omega arith
+
+pub target_later : {T : Type 0} (ps : List (Page T)) (j i page at k l : ℕ) → IsPlace ps j i 0 1 → IsPlace ps page at 1 0 → count_in (take j ps) + i ≡ k → k ≤ l → count_in (take page ps) + at ≡ l + 1 → ¬ (page ≡ j) → IsTarget ps j page at l
+target_later ps j i page at k l x y e m f ne = record {
+  has = y.page;
+  fits = λ d. no_fit _ (y.fits d);
+  within = λ d n. no_more _ _ (y.place d);
+  here = λ d n. absurd (ne n);
+  before = λ b. absurd (room_later ps j i page at k l x y e m f (below_or page j b ne));
+  after = λ b. f;
+}
+
+pub target_earlier : {T : Type 0} (ps : List (Page T)) (j i page at k l : ℕ) → IsPlace ps j i 0 1 → IsPlace ps page at 1 0 → count_in (take j ps) + i ≡ k → l < k → count_in (take page ps) + at ≡ l → IsTarget ps j page at l
+target_earlier ps j i page at k l x y e m f = record {
+  has = y.page;
+  fits = λ d. no_fit _ (y.fits d);
+  within = λ d n. no_more _ _ (y.place d);
+  here = λ d n. earlier_place (count_in (take j ps)) at i k l _ e (ap (λ z. count_in (take z ps) + at) (sym n) ∙ f) m (subst (λ z. i + 1 ≤ length (get_or ps z d).inputs.items) (sym n) (x.place d));
+  before = λ b. f;
+  after = λ b. absurd (room_earlier ps j i page at k l x e m f b);
+}
