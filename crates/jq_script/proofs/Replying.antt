@@ -16,7 +16,7 @@ use Rattle.jq_stream.specs.declared.filters.Filter.{Filter}
 use Rattle.jq_session.specs.Sessions.{IsMoveRefusal, IsRefusal}
 use Rattle.jq_session.specs.Splices.{Follows, FollowsFilter, FollowsMove}
 use Rattle.jq_session.specs.Starts.{IsFirstRun}
-use Rattle.jq_session.specs.States.{State, after, after_move, outcome, refiltered}
+use Rattle.jq_session.specs.States.{State, after, after_move, refiltered}
 use Rattle.jq_session.specs.declared.refusals.Refusal.{Refusal}
 use Rattle.jq_session.specs.declared.refusals.Refusal.TheVariants as refusal
 use Rattle.jq_session.specs.declared.splices.Follow.{Follow}

@@ -1,4 +1,4 @@
-use Rattle.std.proofs.Common.{◌+◌, ap, ap₂, ◌∙◌, sym}
+use Rattle.std.proofs.Common.{◌+◌, ap, ap₂, sym}
 use Rattle.jq_script.specs.Serving.{spare_starts}
 use Rattle.jq_script.proofs.host.Host.into_starts.Goals as goal
 
