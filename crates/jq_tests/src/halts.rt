@@ -31,13 +31,15 @@ fn one_page_of_many(rt: HostRuntime) -> Result<(), Fail> {
         assert_eq!(&rt; session.starts().checked_sub(before), Some(follow.runs));
         assert!(&rt; follow.runs <= most, "{k}: {}", follow.runs);
         client.follow(alloc, &follow)?;
+        assert!(&rt; (k as usize) < list.len());
         list[k as usize] = number;
         client.check_same(&rt, FILTER, &fresh(&rt, ("", FILTER), &list)?);
     }
     let (removal, insertion) = session.shift(999, 500)?;
-    assert!(&rt; removal.runs + insertion.runs <= 259);
+    assert!(&rt; removal.runs.saturating_add(insertion.runs) <= 259);
     client.follow(alloc, &removal)?;
     client.follow(alloc, &insertion)?;
+    assert!(&rt; list.len() == 1_000);
     let last = list.remove(999);
     list.insert(500, last)?;
     client.check_same(&rt, FILTER, &fresh(&rt, ("", FILTER), &list)?);

@@ -18,11 +18,15 @@ fn check_move(
     let (removal, insertion) = session.shift(k, l)?;
     client.follow(rt.alloc(), &removal)?;
     client.follow(rt.alloc(), &insertion)?;
+    assert!(rt; (k as usize) < list.len() && (l as usize) < list.len());
     let number = list.remove(k as usize);
     list.insert(l as usize, number)?;
     let runs = session.starts().checked_sub(before);
-    assert_eq!(rt; runs, Some(removal.runs + insertion.runs));
-    assert!(rt; removal.runs + insertion.runs <= most, "{k} {l}");
+    assert_eq!(rt; runs, removal.runs.checked_add(insertion.runs));
+    assert!(rt;
+        removal.runs.saturating_add(insertion.runs) <= most,
+        "{k} {l}"
+    );
     assert_eq!(rt; insertion.status, session.status());
     Ok(())
 }

@@ -56,7 +56,7 @@ fn as_a_fresh_session(rt: HostRuntime) -> Result<(), Fail> {
         assert_eq!(&rt; (follow.err.at, follow.err.cut), (0, err), "{filter}");
         client.follow(alloc, &follow)?;
         client.check_same(&rt, filter, &fresh(&rt, (flag, filter), &list)?);
-        total += follow.runs;
+        total = total.saturating_add(follow.runs);
         let (removal, insertion) = session.shift(0, 99)?;
         for edit in [
             removal,
@@ -65,8 +65,9 @@ fn as_a_fresh_session(rt: HostRuntime) -> Result<(), Fail> {
             session.replace(98, Val::Num(3))?,
         ] {
             client.follow(alloc, &edit)?;
-            total += edit.runs;
+            total = total.saturating_add(edit.runs);
         }
+        assert!(&rt; list.len() == 100);
         let first = list.remove(0);
         list.push(first)?;
         list[99] = 1;
