@@ -82,12 +82,12 @@ pub on_ok : {A E : Type 0} (P Q : Type 0) (r : Result A E) → OnOk r P → (P �
 on_ok P Q (Ok x) p f = f p
 on_ok P Q (Err e) p f = tt
 
-get_left : {A : Type 0} (xs ys : List A) (n : ℕ) (d : A) → n < length xs → get_or (xs ++ ys) n d ≡ get_or xs n d
+pub get_left : {A : Type 0} (xs ys : List A) (n : ℕ) (d : A) → n < length xs → get_or (xs ++ ys) n d ≡ get_or xs n d
 get_left [] ys n d l = absurd (omega arith)
 get_left (x ∷ xs) ys zero d l = refl
 get_left (x ∷ xs) ys (suc n) d l = let l' : n < length xs = omega arith in get_left xs ys n d l'
 
-get_map : {A B : Type 0} (f : A → B) (xs : List A) (n : ℕ) (d : A) → get_or (map f xs) n (f d) ≡ f (get_or xs n d)
+pub get_map : {A B : Type 0} (f : A → B) (xs : List A) (n : ℕ) (d : A) → get_or (map f xs) n (f d) ≡ f (get_or xs n d)
 get_map f [] zero d = refl
 get_map f [] (suc n) d = refl
 get_map f (x ∷ xs) zero d = refl

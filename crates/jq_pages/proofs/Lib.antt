@@ -13,3 +13,6 @@ pub mod Cuts
 pub mod Groups
 pub mod Joined
 pub mod Parts
+pub mod Moves
+pub mod Shifts
+pub mod Halves

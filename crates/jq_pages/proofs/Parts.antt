@@ -1,5 +1,5 @@
 -- Pages that have the same inputs, pieces and states, while the capacity of their vectors may differ.
-use Rattle.std.proofs.Common.{◌≡◌, ℕ, zero, suc, ◌+◌, ◌*◌, ◌<◌, ◌≤◌, List, [], ◌∷◌, ◌++◌, length, take, drop, get_or, set, refl, sym, ◌∙◌, ap, ap₂, subst, map, arith}
+use Rattle.std.proofs.Common.{◌≡◌, ℕ, zero, suc, ◌+◌, ◌*◌, ◌<◌, ◌≤◌, List, [], ◌∷◌, ◌++◌, length, take, drop, get_or, set, vec_capacity, refl, sym, ◌∙◌, ap, ap₂, subst, map, arith}
 use Rattle.std.proofs.lemmas.List.{take-map, drop-map}
 use Rattle.std.specs.List.{flat_map}
 use Rattle.jv_data.specs.View.{view}
@@ -10,7 +10,11 @@ use Rattle.jq_pages.specs.Totals.{totals}
 use Rattle.jq_pages.specs.private.Bounds.{IsBounded}
 use Rattle.jq_pages.specs.private.Groups.{IsIndex, group_pages}
 use Rattle.jq_pages.specs.declared.grouping.Group.{Group}
-use Rattle.jq_pages.specs.private.Pages.{all_inputs, all_pieces, parts, IsFilled, IsFilledBut, IsSized}
+use Rattle.jq_pages.specs.private.Pages.{all_inputs, all_pieces, parts, HasInputRoom, HasRoom, IsFilled, IsFilledBut, IsSized}
+use Rattle.jq_pages.specs.private.Moves.{HasPlace}
+use Rattle.jq_pages.specs.private.Placed.{Resized}
+use Rattle.jq_pages.specs.declared.applying.Taken.{Taken}
+use Rattle.jq_pages.specs.declared.applying.Taken.TheVariants as taken
 use Rattle.jq_pages.specs.private.Reruns.{IsRun, Holds, count_in, inputs_in, pieces_in}
 use Rattle.jq_pages.specs.declared.page.Page.{Page}
 use Rattle.jq_pages.specs.declared.pieces.Piece.{Piece}
@@ -124,3 +128,34 @@ parts_index gs old new e h = record {
         bounded = subst (λ z. IsBounded (get_or gs g d).sum (length z)) (sym ps) x.bounded;
       };
 }
+
+-- a property of each page that a changed one keeps
+pub set_keeps : {T : Type 0} (P : Page T → Type 0) (ps : List (Page T)) (j n : ℕ) (p q : Page T) → p ≡ get_or ps j p → (P p → P q) → ((e : Page T) → P (get_or ps n e)) → (d : Page T) → P (get_or (set ps j q) n d)
+set_keeps P [] j n p q e k h d = h d
+set_keeps P (o ∷ os) zero zero p q e k h d = k (subst P (sym e) (h p))
+set_keeps P (o ∷ os) zero (suc n) p q e k h d = h d
+set_keeps P (o ∷ os) (suc j) zero p q e k h d = h d
+set_keeps P (o ∷ os) (suc j) (suc n) p q e k h d = set_keeps P os j n p q e k h d
+
+more_room : (n m a b : ℕ) → n ≡ m → a ≤ b → m + 1 ≤ a → n + 1 ≤ b
+more_room n m a b e l h = omega arith
+
+pub keeps_input_room : {T : Type 0} (ps : List (Page T)) (j : ℕ) (p q : Page T) → p ≡ get_or ps j p → q.inputs.items ≡ p.inputs.items → vec_capacity p.inputs ≤ vec_capacity q.inputs → (n : ℕ) → HasInputRoom ps n → HasInputRoom (set ps j q) n
+keeps_input_room ps j p q e a b n h = set_keeps (λ z. length z.inputs.items + 1 ≤ vec_capacity z.inputs) ps j n p q e (λ k. more_room _ _ _ _ (ap (λ (z : List Val). length z) a) b k) h
+
+pub keeps_room : {T : Type 0} (ps : List (Page T)) (j : ℕ) (p q : Page T) → p ≡ get_or ps j p → q.inputs.items ≡ p.inputs.items → vec_capacity p.inputs ≤ vec_capacity q.inputs → q.pieces.items.items ≡ p.pieces.items.items → vec_capacity p.pieces.items ≤ vec_capacity q.pieces.items → (n : ℕ) → HasRoom ps n → HasRoom (set ps j q) n
+keeps_room ps j p q e a b c d n h = record {
+  inputs = keeps_input_room ps j p q e a b n h.inputs;
+  pieces = set_keeps (λ z. length z.pieces.items.items + 1 ≤ vec_capacity z.pieces.items) ps j n p q e (λ k. more_room _ _ _ _ (ap (λ (z : List Piece). length z) c) d k) h.pieces;
+}
+
+pub parts_resized : {T : Type 0} (old mid new : List (Page T)) (j more cut : ℕ) → map parts mid ≡ map parts old → Resized mid new j more cut → Resized old new j more cut
+parts_resized old mid new j more cut e x = record {
+  same = x.same ∙ parts_length old mid e;
+  others = λ n d ne. x.others n d ne ∙ parts_at old mid n d e;
+  here = λ d. x.here d ∙ ap (λ n. n + more) (parts_at old mid j d e);
+}
+
+pub parts_place : {T : Type 0} (old new : List (Page T)) → map parts new ≡ map parts old → ((n : ℕ) → HasInputRoom old n → HasInputRoom new n) → ((n : ℕ) → HasRoom old n → HasRoom new n) → (j : ℕ) (t : Taken T) → HasPlace old j t → HasPlace new j t
+parts_place old new e a b j (taken.Runs value made) h = (subst (λ n. j + 1 + length made.runs.items ≤ n) (sym (parts_length old new e)) h.0, a j h.1)
+parts_place old new e a b j (taken.One value piece) h = (subst (λ n. j < n) (sym (parts_length old new e)) h.0, b j h.1)

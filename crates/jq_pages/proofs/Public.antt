@@ -113,12 +113,12 @@ page_size seen r s ps j d l h z f =
 
 -- ---- how often the filter is started
 
-meets : {S : Type 0} (e : Edit) (put : List Val) (r : Fold S) (s : S) (vs : List Value) (q : ℕ) → length put ≡ added e → s ≡ r.begin.1 → IsSameState e (folded_in r vs) (folded_in r (made e put vs)) q → Meets r s vs (made e put vs) (place e) (length put) (taken e) q
+pub meets : {S : Type 0} (e : Edit) (put : List Val) (r : Fold S) (s : S) (vs : List Value) (q : ℕ) → length put ≡ added e → s ≡ r.begin.1 → IsSameState e (folded_in r vs) (folded_in r (made e put vs)) q → Meets r s vs (made e put vs) (place e) (length put) (taken e) q
 meets e put r s vs q n b x =
     subst (λ z. Meets r z vs (made e put vs) (place e) (length put) (taken e) q) (sym b)
     (subst (λ z. Meets r r.begin.1 vs (made e put vs) (place e) z (taken e) q) (sym n) (record { after = x.after; within = x.within; same = x.same }))
 
-far_enough : (n : ℕ) → n + 64 + 65 ≤ n + 129
+pub far_enough : (n : ℕ) → n + 64 + 65 ≤ n + 129
 far_enough n = omega arith
 
 rerun_of : {S E : Type 0} (e : Edit) (put : List Val) (r : Fold S) (s : S) (vs new : List Value) (was is : List PieceView) (b a : ℕ) (result : Result Change E) → length put ≡ added e → s ≡ r.begin.1
@@ -133,7 +133,7 @@ rerun_of e put r s vs new was is b a result n begin x one = record {
 
 -- ---- which pieces change
 
-count_made : (vs xs : List Value) (p cut : ℕ) → p + cut ≤ length vs → length (replace_range vs p (p + cut) xs) + cut ≡ length vs + length xs
+pub count_made : (vs xs : List Value) (p cut : ℕ) → p + cut ≤ length vs → length (replace_range vs p (p + cut) xs) + cut ≡ length vs + length xs
 count_made vs xs p cut l =
     let a : length ((take p vs ++ xs) ++ drop (p + cut) vs) ≡ length (take p vs ++ xs) + length (drop (p + cut) vs) = length-append (take p vs ++ xs) (drop (p + cut) vs) in
     let b : length (take p vs ++ xs) ≡ length (take p vs) + length xs = length-append (take p vs) xs in

@@ -5,5 +5,6 @@ pub mod Changes
 pub mod Totals
 pub mod Splices
 pub mod Refusals
+pub mod Moves
 pub mod Contents
 pub mod private

@@ -6,3 +6,4 @@ pub mod Edits
 pub mod Bounds
 pub mod Cuts
 pub mod Groups
+pub mod Moves

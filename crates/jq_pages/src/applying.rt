@@ -1,13 +1,16 @@
 // An edit of the pages. All steps run before anything changes, and what they gave is then put in place without memory.
-ghost use Rattle.std.specs.Prelude.{◌≡◌, ◌+◌, ◌<◌, ◌≤◌, ◌^◌, [], ◌∷◌, length, take, IfOk, IsTrue, IsFalse};
+ghost use Rattle.std.specs.Prelude.{◌≡◌, ◌+◌, ◌<◌, ◌≤◌, ◌^◌, [], ◌∷◌, length, map, take, None, IfOk, OnErr, OnOk, IsTrue, IsFalse};
 ghost use Rattle.std.specs.Option.{option_to_list};
 ghost use Rattle.jq_pages.specs.Folds.{Rises};
 ghost use Rattle.jq_pages.specs.Pieces.{PieceView, piece_view};
 ghost use Rattle.jq_pages.specs.private.Reruns.{Holds, count_in};
 ghost use Rattle.jq_pages.specs.private.Groups.{IsIndex};
-ghost use Rattle.jq_pages.specs.private.Pages.{all_pieces, IsFilled, IsFilledBut, IsHeld, IsPlace, IsSized};
-ghost use Rattle.jq_pages.specs.private.Edits.{IsOneEdit, IsPagesEdit, changed};
+ghost use Rattle.jq_pages.specs.private.Pages.{all_inputs, all_pieces, parts, IsFilled, IsFilledBut, IsHeld, IsPlace, IsSized};
+ghost use Rattle.jq_pages.specs.private.Edits.{IsOneEdit, IsPagesEdit, changed, changed_in};
 ghost use Rattle.jq_pages.specs.private.Cuts.{AreSplices};
+ghost use Rattle.jq_pages.specs.private.Placed.{Resized};
+ghost use Rattle.jq_pages.specs.private.Moves.{HasPlace, restored, restored_tail};
+ghost use Rattle.jq_pages.specs.declared.pieces.Piece.{Piece};
 
 use crate::changes::{Change, Edited};
 use crate::cutting::{splices_made, splices_one};
@@ -18,12 +21,20 @@ use crate::lists::{piece_slice, slice_of};
 use crate::merging::merge;
 use crate::page::Page;
 use crate::pieces::Piece;
-use crate::placing::{drop_empty, install, install_one, measure, pages_after, replace_tail};
+use crate::placing::{drop_empty, exchange, exchange_one, is_closed, measure, pages_after};
 use crate::rooms::make_room;
 use crate::running::run_one;
 use crate::steps::Steps;
 use jv_data::{NoMemory, Val};
 use std::alloc::Global;
+
+/// What an edit took out of the pages: the removed input, and the old pieces and states in exchange for what was run, or the one old
+/// piece.
+#[derive(Drop)]
+pub(crate) enum Taken<T> {
+    Runs(Option<Val>, Made<T>),
+    One(Option<Val>, Option<Piece>),
+}
 
 // An edit at place `i` of page `j`. It runs this page, and the pages after it up to the first that ends in the state that it had.
 pub(crate) fn edit_pages<S: Steps>(
@@ -39,18 +50,24 @@ pub(crate) fn edit_pages<S: Steps>(
     i: usize,
     put: Option<Val>,
     cut: usize,
-) -> Result<Edited, NoMemory>
+) -> Result<(Edited, Taken<S::State>), NoMemory>
     requires place { IsPlace pages.old.items j i (length (option_to_list put)) cut }
     requires spot { count_in (take j pages.old.items) + i ≡ k }
     requires few { count_in pages.old.items < 2 ^ 32 }
     requires index { IsIndex groups.old.items pages.old.items }
     requires held { ∥ IsHeld S.seen (S.fold steps.old) (S.seen first.now) pages.old.items tail.old ∥₁ }
-    ensures edits { ∥ IsPagesEdit S.seen (S.fold steps.old) (S.seen first.now) pages.old.items pages.new.items (count_in (take j pages.old.items) + i) (option_to_list put) cut i (S.starts steps.old) (S.starts steps.new) (changed result) ∥₁ }
+    ensures edits { ∥ IsPagesEdit S.seen (S.fold steps.old) (S.seen first.now) pages.old.items pages.new.items (count_in (take j pages.old.items) + i) (option_to_list put) cut i (S.starts steps.old) (S.starts steps.new) (changed_in result) ∥₁ }
     ensures held { ∥ IsHeld S.seen (S.fold steps.new) (S.seen first.now) pages.new.items tail.new ∥₁ }
     ensures filled { IsFilledBut j pages.old.items → IsFilledBut j pages.new.items }
+    ensures unchanged { OnErr result (pages.new.items ≡ pages.old.items) }
+    ensures taken { cut ≡ 1 → put ≡ None → IfOk result (λ e. restored (map parts pages.new.items) j i e.1 ≡ map parts pages.old.items) }
+    ensures room { cut ≡ 1 → put ≡ None → IfOk result (λ e. HasPlace pages.new.items j e.1) }
+    ensures same_tail { OnErr result (tail.new ≡ tail.old) }
+    ensures old_tail { IfOk result (λ e. restored_tail tail.new e.1 ≡ tail.old) }
     ensures length { length pages.new.items ≡ length pages.old.items }
-    ensures tail { IfOk result (λ e. IsFalse e.change.closed → tail.new ≡ tail.old) }
-    ensures spliced { IfOk result (λ e. AreSplices e (piece_view head.now) (all_pieces pages.old.items) (all_pieces pages.new.items) (piece_view tail.old) (piece_view tail.new)) }
+    ensures resized { OnOk result (Resized pages.old.items pages.new.items j (length (option_to_list put)) cut) }
+    ensures tail { IfOk result (λ e. IsFalse e.0.change.closed → tail.new ≡ tail.old) }
+    ensures spliced { IfOk result (λ e. AreSplices e.0 (piece_view head.now) (all_pieces pages.old.items) (all_pieces pages.new.items) (piece_view tail.old) (piece_view tail.new)) }
     ensures same { S.fold steps.new ≡ S.fold steps.old }
     ensures index { IsIndex groups.new.items pages.new.items }
 {
@@ -59,19 +76,14 @@ pub(crate) fn edit_pages<S: Steps>(
     let new = slice_of(&put);
     let more = new.len();
     let after = pages_after(pages, j);
-    let made = run_edit(alloc, steps, entry, page, after, i, new, cut)?;
+    let mut made = run_edit(alloc, steps, entry, page, after, i, new, cut)?;
     let last = j + made.runs.len();
     let old = measure(pages, j, last + 1);
     let splices = splices_made(alloc, head, groups, pages, tail, j, &made)?;
-    let Made {
-        run,
-        runs,
-        tail: closing,
-    } = made;
-    install(pages, j, i, put, cut, run, runs);
-    let closed = replace_tail(tail, closing);
+    let closed = is_closed(&made.tail);
+    let value = exchange(pages, tail, j, i, put, cut, &mut made);
     sum_again(groups, pages, j, last);
-    Ok(Edited {
+    let edited = Edited {
         change: Change {
             from: (k - i) as u64,
             cut: old as u64,
@@ -80,7 +92,8 @@ pub(crate) fn edit_pages<S: Steps>(
         },
         out: splices.out,
         err: splices.err,
-    })
+    };
+    Ok((edited, Taken::Runs(value, made)))
 }
 
 // An edit at place `i` of page `j` if all states are equal: it runs this place alone. `k` is the place in the list.
@@ -96,7 +109,7 @@ fn edit_plain<S: Steps>(
     i: usize,
     put: Option<Val>,
     cut: usize,
-) -> Result<Edited, NoMemory>
+) -> Result<(Edited, Taken<S::State>), NoMemory>
     requires place { IsPlace pages.old.items j i (length (option_to_list put)) cut }
     requires spot { count_in (take j pages.old.items) + i ≡ k }
     requires few { count_in pages.old.items < 2 ^ 32 }
@@ -104,23 +117,28 @@ fn edit_plain<S: Steps>(
     requires alike { (a b : S.Seen) → a ≡ b }
     requires holds { ∥ Holds S.seen (S.fold steps.old) (S.seen state.now) pages.old.items ∥₁ }
     requires sized { ∥ IsSized pages.old.items ∥₁ }
-    ensures edits { ∥ IsPagesEdit S.seen (S.fold steps.old) (S.seen state.now) pages.old.items pages.new.items k (option_to_list put) cut i (S.starts steps.old) (S.starts steps.new) (changed result) ∥₁ }
-    ensures one { IsOneEdit k (length (option_to_list put)) cut (S.starts steps.old) (S.starts steps.new) (changed result) }
+    ensures edits { ∥ IsPagesEdit S.seen (S.fold steps.old) (S.seen state.now) pages.old.items pages.new.items k (option_to_list put) cut i (S.starts steps.old) (S.starts steps.new) (changed_in result) ∥₁ }
+    ensures one { IsOneEdit k (length (option_to_list put)) cut (S.starts steps.old) (S.starts steps.new) (changed_in result) }
     ensures holds { ∥ Holds S.seen (S.fold steps.old) (S.seen state.now) pages.new.items ∥₁ }
     ensures sized { ∥ IsSized pages.new.items ∥₁ }
     ensures filled { IsFilledBut j pages.old.items → IsFilledBut j pages.new.items }
+    ensures unchanged { OnErr result (pages.new.items ≡ pages.old.items) }
+    ensures taken { cut ≡ 1 → put ≡ None → IfOk result (λ e. restored (map parts pages.new.items) j i e.1 ≡ map parts pages.old.items) }
+    ensures room { cut ≡ 1 → put ≡ None → IfOk result (λ e. HasPlace pages.new.items j e.1) }
+    ensures old_tail { IfOk result (λ e. (p : Piece) → restored_tail p e.1 ≡ p) }
     ensures length { length pages.new.items ≡ length pages.old.items }
-    ensures open { IfOk result (λ e. IsFalse e.change.closed) }
-    ensures spliced { IfOk result (λ e. (tail end : PieceView) → AreSplices e (piece_view head.now) (all_pieces pages.old.items) (all_pieces pages.new.items) tail end) }
+    ensures resized { OnOk result (Resized pages.old.items pages.new.items j (length (option_to_list put)) cut) }
+    ensures open { IfOk result (λ e. IsFalse e.0.change.closed) }
+    ensures spliced { IfOk result (λ e. (tail end : PieceView) → AreSplices e.0 (piece_view head.now) (all_pieces pages.old.items) (all_pieces pages.new.items) tail end) }
     ensures same { S.fold steps.new ≡ S.fold steps.old }
     ensures index { IsIndex groups.new.items pages.new.items }
 {
     let more = slice_of(&put).len();
     let piece = run_one(steps, state, &put)?;
     let splices = splices_one(alloc, head, groups, pages, j, i, cut, piece_slice(&piece))?;
-    install_one(pages, j, i, put, piece, cut);
+    let (value, old) = exchange_one(pages, j, i, put, piece, cut);
     sum_again(groups, pages, j, j);
-    Ok(Edited {
+    let edited = Edited {
         change: Change {
             from: k as u64,
             cut: cut as u64,
@@ -129,11 +147,12 @@ fn edit_plain<S: Steps>(
         },
         out: splices.out,
         err: splices.err,
-    })
+    };
+    Ok((edited, Taken::One(value, old)))
 }
 
 // An edit at place `i` of page `j`, which is place `k` of the list.
-fn edit_either<S: Steps>(
+pub(crate) fn edit_either<S: Steps>(
     alloc: Global,
     steps: &mut S,
     head: &Piece,
@@ -146,21 +165,27 @@ fn edit_either<S: Steps>(
     i: usize,
     put: Option<Val>,
     cut: usize,
-) -> Result<Edited, NoMemory>
+) -> Result<(Edited, Taken<S::State>), NoMemory>
     requires place { IsPlace pages.old.items j i (length (option_to_list put)) cut }
     requires spot { count_in (take j pages.old.items) + i ≡ k }
     requires few { count_in pages.old.items < 2 ^ 32 }
     requires index { IsIndex groups.old.items pages.old.items }
     requires held { ∥ IsHeld S.seen (S.fold steps.old) (S.seen first.now) pages.old.items tail.old ∥₁ }
-    ensures edits { ∥ IsPagesEdit S.seen (S.fold steps.old) (S.seen first.now) pages.old.items pages.new.items k (option_to_list put) cut i (S.starts steps.old) (S.starts steps.new) (changed result) ∥₁ }
-    ensures one { IsTrue (S.fold steps.old).plain → IsOneEdit k (length (option_to_list put)) cut (S.starts steps.old) (S.starts steps.new) (changed result) }
+    ensures edits { ∥ IsPagesEdit S.seen (S.fold steps.old) (S.seen first.now) pages.old.items pages.new.items k (option_to_list put) cut i (S.starts steps.old) (S.starts steps.new) (changed_in result) ∥₁ }
+    ensures one { IsTrue (S.fold steps.old).plain → IsOneEdit k (length (option_to_list put)) cut (S.starts steps.old) (S.starts steps.new) (changed_in result) }
     ensures held { ∥ IsHeld S.seen (S.fold steps.new) (S.seen first.now) pages.new.items tail.new ∥₁ }
-    ensures tail { IfOk result (λ e. IsFalse e.change.closed → tail.new ≡ tail.old) }
-    ensures spliced { IfOk result (λ e. AreSplices e (piece_view head.now) (all_pieces pages.old.items) (all_pieces pages.new.items) (piece_view tail.old) (piece_view tail.new)) }
+    ensures tail { IfOk result (λ e. IsFalse e.0.change.closed → tail.new ≡ tail.old) }
+    ensures spliced { IfOk result (λ e. AreSplices e.0 (piece_view head.now) (all_pieces pages.old.items) (all_pieces pages.new.items) (piece_view tail.old) (piece_view tail.new)) }
     ensures same { S.fold steps.new ≡ S.fold steps.old }
     ensures index { IsIndex groups.new.items pages.new.items }
     ensures filled { IsFilledBut j pages.old.items → IsFilledBut j pages.new.items }
+    ensures unchanged { OnErr result (pages.new.items ≡ pages.old.items) }
+    ensures taken { cut ≡ 1 → put ≡ None → IfOk result (λ e. restored (map parts pages.new.items) j i e.1 ≡ map parts pages.old.items) }
+    ensures room { cut ≡ 1 → put ≡ None → IfOk result (λ e. HasPlace pages.new.items j e.1) }
+    ensures same_tail { OnErr result (tail.new ≡ tail.old) }
+    ensures old_tail { IfOk result (λ e. restored_tail tail.new e.1 ≡ tail.old) }
     ensures length { length pages.new.items ≡ length pages.old.items }
+    ensures resized { OnOk result (Resized pages.old.items pages.new.items j (length (option_to_list put)) cut) }
 {
     if steps.plain() {
         return edit_plain(alloc, steps, head, first, groups, pages, k, j, i, put, cut);
@@ -168,6 +193,30 @@ fn edit_either<S: Steps>(
     edit_pages(
         alloc, steps, head, first, groups, pages, tail, k, j, i, put, cut,
     )
+}
+
+// Removes page `j` if it has no input, or joins it to a neighbour if both are small. No input and no piece changes.
+pub(crate) fn settle<S: Steps>(
+    alloc: Global,
+    _steps: &S,
+    _first: &S::State,
+    groups: &mut Vec<Group>,
+    pages: &mut Vec<Page<S::State>>,
+    _tail: &Piece,
+    j: usize,
+)
+    requires page { j < length pages.old.items }
+    requires index { IsIndex groups.old.items pages.old.items }
+    requires held { ∥ IsHeld S.seen (S.fold _steps.now) (S.seen _first.now) pages.old.items _tail.now ∥₁ }
+    ensures inputs { all_inputs pages.new.items ≡ all_inputs pages.old.items }
+    ensures pieces { all_pieces pages.new.items ≡ all_pieces pages.old.items }
+    ensures held { ∥ IsHeld S.seen (S.fold _steps.now) (S.seen _first.now) pages.new.items _tail.now ∥₁ }
+    ensures index { IsIndex groups.new.items pages.new.items }
+    ensures filled { IsFilledBut j pages.old.items → IsFilled pages.new.items }
+{
+    drop_empty(groups, pages, j);
+    merge(alloc, groups, pages, j);
+    add_groups(groups, pages);
 }
 
 // The same; then the page is removed if it has no input, or joined to a neighbour if both are small.
@@ -203,10 +252,8 @@ fn edit_at<S: Steps>(
     let result = edit_either(
         alloc, steps, head, first, groups, pages, tail, k, j, i, put, cut,
     );
-    drop_empty(groups, pages, j);
-    merge(alloc, groups, pages, j);
-    add_groups(groups, pages);
-    result
+    settle(alloc, steps, first, groups, pages, tail, j);
+    Ok(result?.0)
 }
 
 // Replaces an input, or removes it if there is no other.

@@ -16,6 +16,7 @@ mod laws;
 mod listing;
 mod lists;
 mod merging;
+mod moving;
 mod page;
 mod pages;
 mod pieces;
@@ -28,7 +29,7 @@ mod steps;
 mod summing;
 mod totals;
 
-pub use changes::{Change, Edited};
+pub use changes::{Change, Edited, Moved};
 pub use laws::{totals_count_bytes_and_failures, totals_have_the_first_halt_and_the_last_output};
 pub use pages::{MOST_INPUTS, Pages};
 pub use pieces::{Last, Piece};

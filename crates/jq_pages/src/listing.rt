@@ -1,5 +1,5 @@
 // The pieces of some inputs, with their totals.
-ghost use Rattle.std.specs.Prelude.{◌≡◌, ◌+◌, ◌≤◌, [], ◌∷◌, ◌++◌, length, take, drop, map, vec_capacity, IfOk, OnOk};
+ghost use Rattle.std.specs.Prelude.{◌≡◌, ◌+◌, ◌≤◌, [], ◌∷◌, ◌++◌, length, take, drop, map, vec_capacity, None, IfOk, OnOk};
 ghost use Rattle.std.specs.Option.{option_to_list};
 ghost use Rattle.jq_pages.specs.Pieces.{piece_view};
 ghost use Rattle.jq_pages.specs.Totals.{totals};
@@ -68,20 +68,24 @@ impl PieceList {
     pub(crate) fn reserve_one(&mut self) -> Result<(), NoMemory>
         ensures items { self.new.items.items ≡ self.old.items.items }
         ensures room { OnOk result (length self.new.items.items + 1 ≤ vec_capacity self.new.items) }
+        ensures capacity { vec_capacity self.old.items ≤ vec_capacity self.new.items }
     {
         self.items.reserve(1)?;
         Ok(())
     }
 
     // Removes `cut` pieces at a place and inserts one there, if there is one. There is room for an insertion.
-    pub(crate) fn edit(&mut self, i: usize, put: Option<Piece>, cut: usize)
+    pub(crate) fn edit(&mut self, i: usize, put: Option<Piece>, cut: usize) -> Option<Piece>
         requires cut { cut ≤ 1 }
         requires place { i + cut ≤ length self.old.items.items }
         requires room { cut ≡ 0 → length self.old.items.items + 1 ≤ vec_capacity self.old.items }
-        ensures { self.new.items.items ≡ (take i self.old.items.items ++ option_to_list put) ++ drop (i + cut) self.old.items.items }
+        ensures taken { option_to_list result ≡ take cut (drop i self.old.items.items) }
+        ensures room { cut ≡ 1 → put ≡ None → length self.new.items.items + 1 ≤ vec_capacity self.new.items }
+        ensures items { self.new.items.items ≡ (take i self.old.items.items ++ option_to_list put) ++ drop (i + cut) self.old.items.items }
     {
-        edit_list(&mut self.items, i, put, cut);
+        let taken = edit_list(&mut self.items, i, put, cut);
         self.sum = totals_of(&self.items);
+        taken
     }
 
     // Adds other pieces at the end. All move to `room`.

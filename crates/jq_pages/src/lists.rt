@@ -1,9 +1,10 @@
 // Lists: optional elements as slices, and changes that need no memory.
-ghost use Rattle.std.specs.Prelude.{◌≡◌, ◌+◌, ◌<◌, ◌≤◌, [], ◌++◌, length, take, drop, vec_capacity};
+ghost use Rattle.std.specs.Prelude.{◌≡◌, ◌+◌, ◌<◌, ◌≤◌, [], ◌++◌, length, take, drop, vec_capacity, slice_index_or, None};
 ghost use Rattle.std.specs.Option.{option_to_list};
 
 use crate::pieces::Piece;
 use jv_data::Val;
+use std::mem;
 
 // The input that an edit puts in, if there is one, as a slice.
 pub(crate) fn slice_of(put: &Option<Val>) -> &[Val]
@@ -46,31 +47,39 @@ fn put_in<A: Drop>(list: &mut Vec<A>, i: usize, put: Option<A>)
     }
 }
 
-// Replaces an element, or removes it if there is no other.
-fn change_one<A: Drop>(list: &mut Vec<A>, i: usize, put: Option<A>)
+// Replaces an element, or removes it if there is no other. It gives the old one.
+fn change_one<A: Drop>(list: &mut Vec<A>, i: usize, put: Option<A>) -> A
     requires place { i < length list.old.items }
-    ensures { list.new.items ≡ (take i list.old.items ++ option_to_list put) ++ drop (i + 1) list.old.items }
+    ensures taken { result ≡ slice_index_or list.old.items i result }
+    ensures room { put ≡ None → length list.new.items + 1 ≤ vec_capacity list.new }
+    ensures items { list.new.items ≡ (take i list.old.items ++ option_to_list put) ++ drop (i + 1) list.old.items }
 {
     match put {
-        Some(value) => list[i] = value,
-        None => {
-            list.remove(i);
-        }
+        Some(value) => mem::replace(&mut list[i], value),
+        None => list.remove(i),
     }
 }
 
 // Removes `cut` elements at a place and inserts one there, if there is one. The elements stay in their list, which has room for an
-// insertion.
-pub(crate) fn edit_list<A: Drop>(list: &mut Vec<A>, i: usize, put: Option<A>, cut: usize)
+// insertion. It gives the removed one.
+pub(crate) fn edit_list<A: Drop>(
+    list: &mut Vec<A>,
+    i: usize,
+    put: Option<A>,
+    cut: usize,
+) -> Option<A>
     requires cut { cut ≤ 1 }
     requires place { i + cut ≤ length list.old.items }
     requires room { cut ≡ 0 → length list.old.items + 1 ≤ vec_capacity list.old }
-    ensures { list.new.items ≡ (take i list.old.items ++ option_to_list put) ++ drop (i + cut) list.old.items }
+    ensures taken { option_to_list result ≡ take cut (drop i list.old.items) }
+    ensures room { cut ≡ 1 → put ≡ None → length list.new.items + 1 ≤ vec_capacity list.new }
+    ensures items { list.new.items ≡ (take i list.old.items ++ option_to_list put) ++ drop (i + cut) list.old.items }
 {
     if cut == 0 {
         put_in(list, i, put);
+        None
     } else {
-        change_one(list, i, put);
+        Some(change_one(list, i, put))
     }
 }
 

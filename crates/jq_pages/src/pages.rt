@@ -4,10 +4,11 @@ ghost use Rattle.jq_pages.specs.Edits.{most_inputs};
 
 use crate::applying::{change_at, insert_at};
 use crate::building::run_all;
-use crate::changes::Edited;
+use crate::changes::{Edited, Moved};
 use crate::cutting::totals_with;
 use crate::grouping::find;
 use crate::kept::Kept;
+use crate::moving::shift_at;
 use crate::pieces::Piece;
 use crate::refusals::{NotStarted, Refusal};
 use crate::steps::Steps;
@@ -36,6 +37,7 @@ impl<S: Steps> Pages<S> {
     ghost use Rattle.jq_pages.specs.Contents.{folded_in, folded_of, inputs_paged_in, paged_in, starts_of};
     ghost use Rattle.jq_pages.specs.Edits.{after, insert, remove, replace};
     ghost use Rattle.jq_pages.specs.Folds.{all, head, pieces, tail};
+    ghost use Rattle.jq_pages.specs.Moves.{after_move, IsMove, IsMoveRefusal, IsMoveStarted};
     ghost use Rattle.jq_pages.specs.Pieces.{piece_view};
     ghost use Rattle.jq_pages.specs.Refusals.{IsRefusal, IsStartRefusal};
     ghost use Rattle.jq_pages.specs.Splices.{IsSpliced};
@@ -162,6 +164,33 @@ impl<S: Steps> Pages<S> {
         )?;
         kept.count -= 1;
         Ok(edited)
+    }
+
+    /// Moves an input: removes the one of number `k`, and inserts it at place `l` of the shorter list. If it is refused, nothing changed
+    /// but the count of starts.
+    pub fn shift(&mut self, k: u64, l: u64) -> Result<Moved, Refusal>
+        ensures moved { OnOk result (after_move k l (folded_of self.old) ≡ Ok (folded_of self.new)) }
+        ensures halves { IfOk result (λ m. IsMove k l m (folded_of self.old) (folded_of self.new)) }
+        ensures refused { IfErr result (λ refusal. IsMoveRefusal refusal (after_move k l (folded_of self.old))) }
+        ensures unchanged { OnErr result (folded_of self.new ≡ folded_of self.old) }
+        ensures counted { IfOk result (λ m. (starts_of self.old ≤ m.starts) × (m.starts ≤ starts_of self.new)) }
+        ensures started { IsMoveStarted k l (folded_of self.old) (starts_of self.old) (starts_of self.new) }
+    {
+        if k >= self.len() || l >= self.len() {
+            return Err(Refusal::NoPlace);
+        }
+        let kept = &mut self.kept;
+        Ok(shift_at(
+            self.alloc,
+            &mut kept.steps,
+            &kept.head,
+            &kept.first,
+            &mut kept.groups,
+            &mut kept.pages,
+            &mut kept.tail,
+            k as usize,
+            l as usize,
+        )?)
     }
 
     /// The number of inputs.

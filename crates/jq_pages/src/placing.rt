@@ -1,44 +1,57 @@
 // What an edit changes after its runs. None of this needs memory: the other inputs of a page stay where they are.
-ghost use Rattle.std.specs.Prelude.{◌≡◌, ℕ, ◌+◌, ◌<◌, ◌≤◌, ◌^◌, [], ◌∷◌, ◌++◌, length, take, drop, map, slice_index_or, MatchOption, IsTrue, IsFalse, IsSome, ◌↔◌};
+ghost use Rattle.std.specs.Prelude.{◌≡◌, ℕ, ◌+◌, ◌<◌, ◌≤◌, ◌^◌, [], ◌∷◌, ◌++◌, length, take, drop, map, slice_index_or, vec_capacity, MatchOption, None, Some, IsTrue, IsSome, ◌↔◌};
 ghost use Rattle.std.specs.Option.{option_to_list};
-ghost use Rattle.jq_pages.specs.private.Reruns.{renewed, count_in};
+ghost use Rattle.jq_pages.specs.private.Reruns.{renewed, run_in, count_in};
 ghost use Rattle.jq_pages.specs.private.Groups.{IsIndex};
-ghost use Rattle.jq_pages.specs.private.Pages.{HasRoom};
+ghost use Rattle.jq_pages.specs.private.Pages.{parts, HasInputRoom, HasRoom};
+ghost use Rattle.jq_pages.specs.private.Moves.{other_tail, restored};
+ghost use Rattle.jq_pages.specs.declared.applying.Taken.TheVariants as taken;
 ghost use Rattle.jq_pages.specs.private.Placed.{Installed, Dropped, Replaced};
 
+use crate::editing::Made;
 use crate::grouping::{Group, cut_groups};
 use crate::lists::edit_list;
 use crate::page::{Page, Rerun};
 use crate::pieces::Piece;
 use jv_data::Val;
+use std::mem;
 
-// Gives the pages from a place on the pieces and states of these runs.
-pub(crate) fn put_in_place<T: Drop>(pages: &mut Vec<Page<T>>, from: usize, runs: Vec<Rerun<T>>)
-    requires { from + length runs.items ≤ length pages.old.items }
-    ensures { pages.new.items ≡ take from pages.old.items ++ renewed (drop from pages.old.items) runs.items }
+// Exchanges the pieces and the state of a page and those of a run.
+fn swap_run<T: Drop>(page: &mut Page<T>, run: &mut Rerun<T>)
+    ensures inputs { page.new.inputs ≡ page.old.inputs }
+    ensures page { (page.new.pieces ≡ run.old.pieces) × (page.new.exit ≡ run.old.exit) }
+    ensures run { (run.new.pieces ≡ page.old.pieces) × (run.new.exit ≡ page.old.exit) }
 {
-    let mut at = from;
-    for run in runs {
-        let page = &mut pages[at];
-        page.pieces = run.pieces;
-        page.exit = run.exit;
-        at += 1;
+    mem::swap(&mut page.pieces, &mut run.pieces);
+    mem::swap(&mut page.exit, &mut run.exit);
+}
+
+// Exchanges the pieces and states of the pages from a place on and those of these runs.
+pub(crate) fn swap_runs<T: Drop>(pages: &mut Vec<Page<T>>, from: usize, runs: &mut Vec<Rerun<T>>)
+    requires { from + length runs.old.items ≤ length pages.old.items }
+    ensures pages { pages.new.items ≡ take from pages.old.items ++ renewed (drop from pages.old.items) runs.old.items }
+    ensures runs { runs.new.items ≡ map run_in (take (length runs.old.items) (drop from pages.old.items)) }
+{
+    for at in 0..runs.len() {
+        swap_run(&mut pages[from + at], &mut runs[at]);
     }
 }
 
-// Replaces the piece of `close`, if there is another, and says whether there is.
-pub(crate) fn replace_tail(tail: &mut Piece, closing: Option<Piece>) -> bool
-    ensures tail { MatchOption closing (tail.new ≡ tail.old) (λ p. tail.new ≡ p) }
-    ensures closed { IsTrue result ↔ IsSome closing }
-    ensures kept { IsFalse result → tail.new ≡ tail.old }
+// Exchanges the piece of `close` and another one, if there is one.
+pub(crate) fn swap_tail(tail: &mut Piece, closing: &mut Option<Piece>)
+    ensures tail { MatchOption closing.old (tail.new ≡ tail.old) (λ p. tail.new ≡ p) }
+    ensures closing { MatchOption closing.old (closing.new ≡ None) (λ p. closing.new ≡ Some tail.old) }
 {
-    match closing {
-        Some(piece) => {
-            *tail = piece;
-            true
-        }
-        None => false,
+    if let Some(piece) = closing {
+        mem::swap(tail, piece);
     }
+}
+
+// Whether there is another piece of `close`.
+pub(crate) fn is_closed(closing: &Option<Piece>) -> bool
+    ensures { IsTrue result ↔ IsSome closing.now }
+{
+    closing.is_some()
 }
 
 // The pages after page `j`.
@@ -71,48 +84,60 @@ pub(crate) fn measure<T>(pages: &[Page<T>], j: usize, k: usize) -> usize
     count_inputs(&pages[j..k])
 }
 
-// Edits a page, and gives it and the pages after it what was run.
-pub(crate) fn install<T: Drop>(
+// Edits a page, and exchanges its pieces and state, those of the pages after it, and the piece of `close` for what was run. After it
+// `made` has the old ones; so the same call with the removed input, which it gives, takes an edit back.
+pub(crate) fn exchange<T: Drop>(
     pages: &mut Vec<Page<T>>,
+    tail: &mut Piece,
     j: usize,
     i: usize,
     put: Option<Val>,
     cut: usize,
-    run: Rerun<T>,
-    runs: Vec<Rerun<T>>,
-)
-    requires page { j + 1 + length runs.items ≤ length pages.old.items }
+    made: &mut Made<T>,
+) -> Option<Val>
+    requires page { j + 1 + length made.old.runs.items ≤ length pages.old.items }
     requires cut { cut ≤ 1 }
     requires place { (d : Page T) → i + cut ≤ length (slice_index_or pages.old.items j d).inputs.items }
-    requires room { cut ≡ 0 → HasRoom pages.old.items j }
-    ensures { Installed pages.old.items pages.new.items j i (option_to_list put) cut run runs.items }
+    requires room { cut ≡ 0 → HasInputRoom pages.old.items j }
+    ensures pages { Installed pages.old.items pages.new.items j i (option_to_list put) cut made.old.run made.old.runs.items }
+    ensures put { cut ≡ 0 → map parts pages.new.items ≡ restored (map parts pages.old.items) j i (taken.Runs put made.old) }
+    ensures back { cut ≡ 1 → put ≡ None → restored (map parts pages.new.items) j i (taken.Runs result made.new) ≡ map parts pages.old.items }
+    ensures room { cut ≡ 1 → put ≡ None → HasInputRoom pages.new.items j }
+    ensures runs { length made.new.runs.items ≡ length made.old.runs.items }
+    ensures tail { MatchOption made.old.tail (tail.new ≡ tail.old) (λ p. tail.new ≡ p) }
+    ensures old_tail { other_tail tail.new made.new.tail ≡ tail.old }
 {
     let page = &mut pages[j];
-    edit_list(&mut page.inputs, i, put, cut);
-    page.pieces = run.pieces;
-    page.exit = run.exit;
-    put_in_place(pages, j + 1, runs);
+    let taken = edit_list(&mut page.inputs, i, put, cut);
+    swap_run(page, &mut made.run);
+    swap_runs(pages, j + 1, &mut made.runs);
+    swap_tail(tail, &mut made.tail);
+    taken
 }
 
-// Edits a page and its pieces at one place; its state stays.
-pub(crate) fn install_one<T: Drop>(
+// Edits a page and its pieces at one place; its state stays. It gives the removed input and its piece.
+pub(crate) fn exchange_one<T: Drop>(
     pages: &mut Vec<Page<T>>,
     j: usize,
     i: usize,
     put: Option<Val>,
     piece: Option<Piece>,
     cut: usize,
-)
+) -> (Option<Val>, Option<Piece>)
     requires page { j < length pages.old.items }
     requires cut { cut ≤ 1 }
     requires place { (d : Page T) → i + cut ≤ length (slice_index_or pages.old.items j d).inputs.items }
     requires have { (d : Page T) → i + cut ≤ length (slice_index_or pages.old.items j d).pieces.items.items }
     requires room { cut ≡ 0 → HasRoom pages.old.items j }
-    ensures { Replaced pages.old.items pages.new.items j i (option_to_list put) (option_to_list piece) cut }
+    ensures pages { Replaced pages.old.items pages.new.items j i (option_to_list put) (option_to_list piece) cut }
+    ensures put { cut ≡ 0 → map parts pages.new.items ≡ restored (map parts pages.old.items) j i (taken.One put piece) }
+    ensures back { cut ≡ 1 → put ≡ None → piece ≡ None → restored (map parts pages.new.items) j i (taken.One result.0 result.1) ≡ map parts pages.old.items }
+    ensures room { cut ≡ 1 → put ≡ None → piece ≡ None → HasRoom pages.new.items j }
 {
     let page = &mut pages[j];
-    edit_list(&mut page.inputs, i, put, cut);
-    page.pieces.edit(i, piece, cut);
+    let value = edit_list(&mut page.inputs, i, put, cut);
+    let old = page.pieces.edit(i, piece, cut);
+    (value, old)
 }
 
 // Removes page `j` if it has no input.

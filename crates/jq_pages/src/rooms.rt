@@ -3,7 +3,7 @@ ghost use Rattle.std.specs.Prelude.{◌≡◌, ℕ, ◌+◌, ◌-◌, ◌<◌, �
 ghost use Rattle.jq_pages.specs.Folds.{Rises};
 ghost use Rattle.jq_pages.specs.private.Reruns.{Holds, count_in};
 ghost use Rattle.jq_pages.specs.private.Groups.{IsIndex};
-ghost use Rattle.jq_pages.specs.private.Pages.{all_inputs, all_pieces, parts, HasRoom, IsFilled, IsFilledBut, IsPlace, IsSized};
+ghost use Rattle.jq_pages.specs.private.Pages.{all_inputs, all_pieces, parts, HasInputRoom, HasRoom, IsFilled, IsFilledBut, IsPlace, IsSized};
 ghost use Rattle.jq_pages.specs.private.Placed.{Opened};
 
 use crate::dividing::{HALF, split_page};
@@ -104,10 +104,12 @@ fn find_room<S: Steps>(
 }
 
 // Reserves memory for one more input of page `j`, and for its piece. Nothing else changes.
-fn reserve_in<T: Drop>(pages: &mut Vec<Page<T>>, j: usize) -> Result<(), NoMemory>
+pub(crate) fn reserve_in<T: Drop>(pages: &mut Vec<Page<T>>, j: usize) -> Result<(), NoMemory>
     requires { j < length pages.old.items }
     ensures same { map parts pages.new.items ≡ map parts pages.old.items }
     ensures room { OnOk result (HasRoom pages.new.items j) }
+    ensures kept { (n : ℕ) → HasInputRoom pages.old.items n → HasInputRoom pages.new.items n }
+    ensures kept_both { (n : ℕ) → HasRoom pages.old.items n → HasRoom pages.new.items n }
 {
     let page = &mut pages[j];
     page.inputs.reserve(1)?;

@@ -1,5 +1,5 @@
 // Runs of steps over inputs.
-ghost use Rattle.std.specs.Prelude.{◌≡◌, ◌++◌, ◌+◌, length, map, IfOk, OnOk};
+ghost use Rattle.std.specs.Prelude.{◌≡◌, ◌++◌, ◌+◌, length, map, None, IfOk, OnOk};
 ghost use Rattle.std.specs.Option.{option_to_list};
 ghost use Rattle.jv_data.specs.View.{view};
 ghost use Rattle.jq_pages.specs.Pieces.{piece_view};
@@ -62,6 +62,7 @@ pub(crate) fn run_one<S: Steps>(
     put: &Option<Val>,
 ) -> Result<Option<Piece>, NoMemory>
     ensures pieces { IfOk result (λ p. map piece_view (option_to_list p) ≡ pieces_after (S.fold steps.old) (S.seen state.now) (map view (option_to_list put.now))) }
+    ensures none { put.now ≡ None → IfOk result (λ p. p ≡ None) }
     ensures same { S.fold steps.new ≡ S.fold steps.old }
     ensures rises { Rises (S.starts steps.old) (S.starts steps.new) (length (option_to_list put.now)) }
 {

@@ -9,12 +9,12 @@ use std::test::Fail;
 
 // What a client has.
 #[derive(Drop)]
-struct Client {
-    out: Vec<u8>,
-    err: Vec<u8>,
+pub(crate) struct Client {
+    pub(crate) out: Vec<u8>,
+    pub(crate) err: Vec<u8>,
 }
 
-fn client_of<S: Steps>(alloc: Global, pages: &Pages<S>) -> Result<Client, NoMemory> {
+pub(crate) fn client_of<S: Steps>(alloc: Global, pages: &Pages<S>) -> Result<Client, NoMemory> {
     Ok(Client {
         out: written(alloc, pages)?,
         err: complained(alloc, pages)?,
@@ -46,7 +46,7 @@ fn spliced(alloc: Global, bytes: &[u8], splice: &Splice) -> Result<Vec<u8>, NoMe
 }
 
 // What the client has after an edit.
-fn follow(alloc: Global, client: &Client, edited: &Edited) -> Result<Client, NoMemory> {
+pub(crate) fn follow(alloc: Global, client: &Client, edited: &Edited) -> Result<Client, NoMemory> {
     Ok(Client {
         out: spliced(alloc, &client.out, &edited.out)?,
         err: spliced(alloc, &client.err, &edited.err)?,

@@ -16,6 +16,8 @@ mod groups;
 mod limits;
 #[cfg(test)]
 mod memory;
+#[cfg(test)]
+mod moves;
 mod samples;
 #[cfg(test)]
 mod shown;

@@ -120,6 +120,54 @@ fn make_all<S: Steps>(
 // They fill the first page, so that a later insertion divides it.
 const FIRST: [Edit; 16] = [Edit::Insert(5, 1); 16];
 
+// How often a move may start a step, if it is refused for lack of memory.
+fn most_moves<S: Steps>(pages: &Pages<S>, k: u64, l: u64) -> u64 {
+    if pages.steps().plain() {
+        return 1;
+    }
+    let places = pages
+        .len()
+        .wrapping_sub(k)
+        .wrapping_add(pages.len())
+        .wrapping_sub(l);
+    places.wrapping_add(258)
+}
+
+// Makes each move, and where it finds no memory, sees that nothing changed and makes it again.
+fn move_all<S: Steps>(
+    rt: &impl Abort,
+    pages: &mut Pages<S>,
+    moves: &[(u64, u64)],
+) -> Result<(), Refusal> {
+    for (k, l) in moves {
+        let before = digest(pages);
+        let totals = pages.totals();
+        let count = pages.steps().count();
+        let most = most_moves(pages, *k, *l);
+        if let Err(refusal) = pages.shift(*k, *l) {
+            assert_eq!(rt; refusal, Refusal::NoMemory, "{k} {l}");
+            assert_eq!(rt; digest(pages), before, "{k} {l}");
+            assert_eq!(rt; pages.totals(), totals, "{k} {l}");
+            let runs = pages.steps().count().wrapping_sub(count);
+            assert!(rt; runs <= most, "{k} {l}");
+            let _edits = pages.shift(*k, *l)?;
+        }
+    }
+    Ok(())
+}
+
+// Moves, of which each second one undoes the one before it: within a page, to later and to earlier pages, and to the ends.
+const MOVES: [(u64, u64); 8] = [
+    (3, 20),
+    (20, 3),
+    (2, 120),
+    (120, 2),
+    (70, 10),
+    (10, 70),
+    (0, 132),
+    (132, 0),
+];
+
 const LINES: [Edit; 8] = [
     Edit::Replace(1, 5),
     Edit::Insert(0, 4),
@@ -157,6 +205,8 @@ fn sums_again(rt: HostRuntime) -> Result<(), Fail> {
         want = mix_digit(want, sum);
     }
     assert_eq!(&rt; digest(&pages), (133, mix_silence(want)));
+    move_all(&rt, &mut pages, &MOVES)?;
+    assert_eq!(&rt; digest(&pages), (133, mix_silence(want)));
     Ok(())
 }
 
@@ -173,6 +223,8 @@ fn digits_again(rt: HostRuntime) -> Result<(), Fail> {
             None => mix_silence(want),
         };
     }
+    assert_eq!(&rt; digest(&pages), (133, mix_silence(want)));
+    move_all(&rt, &mut pages, &MOVES)?;
     assert_eq!(&rt; digest(&pages), (133, mix_silence(want)));
     Ok(())
 }
@@ -194,6 +246,8 @@ fn largest_again(rt: HostRuntime) -> Result<(), Fail> {
             None => mix_fields(want, b"", b"!\n", Last::Nothing, true),
         };
     }
+    assert_eq!(&rt; digest(&pages), (133, mix_digit(want, most)));
+    move_all(&rt, &mut pages, &MOVES)?;
     assert_eq!(&rt; digest(&pages), (133, mix_digit(want, most)));
     Ok(())
 }

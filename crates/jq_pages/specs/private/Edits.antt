@@ -49,6 +49,11 @@ abbrev pub changed : {E : Type 0} → Result Edited E → Result Change E
 changed (Ok e) = Ok e.change
 changed (Err x) = Err x
 
+-- the same, if the edit also gives what it took out
+abbrev pub changed_in : {A E : Type 0} → Result (Edited × A) E → Result Change E
+changed_in (Ok e) = Ok e.0.change
+changed_in (Err x) = Err x
+
 -- an edit at which only its place is run
 pub record IsOneEdit {E : Type 0} (p put cut before after : ℕ) (result : Result Change E) : Type 0 where
   pub change : IfOk result (λ c. (c.from ≡ p) × (c.put ≡ put) × (c.cut ≡ cut) × IsFalse c.closed)

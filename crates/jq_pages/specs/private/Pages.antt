@@ -45,6 +45,10 @@ pub record IsHeld {T S : Type 0} (seen : T → S) (r : Fold S) (s : S) (ps : Lis
 abbrev pub parts : {T : Type 0} → Page T → List Val × List Piece × T
 parts p = (p.inputs.items, p.pieces.items.items, p.exit)
 
+-- One more input of page `j` needs no memory.
+abbrev pub HasInputRoom : {T : Type 0} → List (Page T) → ℕ → Type 0
+HasInputRoom pages j = (d : Page _) → length (slice_index_or pages j d).inputs.items + 1 ≤ vec_capacity (slice_index_or pages j d).inputs
+
 -- One more input of page `j` and its piece need no memory.
 pub record HasRoom {T : Type 0} (pages : List (Page T)) (j : ℕ) : Type 0 where
   pub inputs : (d : Page T) → length (slice_index_or pages j d).inputs.items + 1 ≤ vec_capacity (slice_index_or pages j d).inputs

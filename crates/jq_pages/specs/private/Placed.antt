@@ -57,6 +57,12 @@ pub record Replaced {T : Type 0} (old new : List (Page T)) (j i : ℕ) (put : Li
   pub others : page.pieces.items.items ≡ (take i (get_or old j page).pieces.items.items ++ pieces) ++ drop (i + cut) (get_or old j page).pieces.items.items
   pub exit : page.exit ≡ (get_or old j page).exit
 
+-- Page `j` has `cut` inputs fewer and `more` inputs more, and each other page has as many as before.
+pub record Resized {T : Type 0} (old new : List (Page T)) (j more cut : ℕ) : Type 0 where
+  pub same : length new ≡ length old
+  pub others : (n : ℕ) (d : Page T) → ¬ (n ≡ j) → length (get_or new n d).inputs.items ≡ length (get_or old n d).inputs.items
+  pub here : (d : Page T) → length (get_or new j d).inputs.items + cut ≡ length (get_or old j d).inputs.items + more
+
 -- Page `j` was taken out if it had no input; else nothing changed.
 abbrev pub Dropped : {T : Type 0} → (old new : List (Page T)) → ℕ → Type 0
 Dropped old new j = ((new ≡ take j old ++ drop (j + 1) old) × ((d : Page _) → (get_or old j d).inputs.items ≡ [])) ⊎ ((new ≡ old) × ((d : Page _) → 0 < length (get_or old j d).inputs.items))

@@ -20,6 +20,10 @@ inputs_in p = map view p.inputs.items
 abbrev pub run_pieces : {T : Type 0} → Rerun T → List PieceView
 run_pieces a = map piece_view a.pieces.items.items
 
+-- what a page has of the run over its inputs
+abbrev pub run_in : {T : Type 0} → Page T → Rerun T
+run_in p = record { pieces = p.pieces; exit = p.exit }
+
 abbrev pub IsRunOf : {T S : Type 0} → (T → S) → Fold S → S → List Value → Rerun T → Type 0
 IsRunOf seen r s vs a = IsRun r s vs (run_pieces a) (seen a.exit)
 

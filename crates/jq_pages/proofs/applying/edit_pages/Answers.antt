@@ -1,4 +1,4 @@
-use Rattle.std.proofs.Common.{◌≡◌, ℕ, ◌+◌, ◌-◌, ◌/◌, ◌<◌, ◌≤◌, ◌∷◌, ◌++◌, List, length, length-drop, take, drop, map, ap, ap₂, sym, ◌∙◌, subst, subst₂, arith, None, IfSome}
+use Rattle.std.proofs.Common.{◌≡◌, ℕ, ◌+◌, ◌-◌, ◌/◌, ◌<◌, ◌≤◌, ◌∷◌, ◌++◌, List, length, length-drop, take, drop, map, ap, ap₂, sym, ◌∙◌, subst, subst₂, arith, None, IfSome, IsSome, IsTrue, ◌↔◌}
 use Rattle.std.proofs.Math.Logic.{∥∥₁_elim, ∥∥₁_map}
 use Rattle.std.proofs.Props.{props}
 use Rattle.std.specs.List.{replace_range}
@@ -12,7 +12,8 @@ use Rattle.jq_pages.specs.private.Pages.{all_inputs, all_pieces, IsSized, IsHeld
 use Rattle.jq_pages.specs.private.Placed.{put_at}
 use Rattle.jq_pages.specs.private.Edits.{Meets}
 use Rattle.jv_data.specs.declared.values.Val.{Val}
-use Rattle.jq_pages.proofs.Applied.{changed_err, end_near, rises_near, far_near, rises_end, done_holds, done_inputs, done_sized, done_tail, done_stop, done_change, err_edit, ok_edit, old_count, sized_at, far_of}
+use Rattle.jq_pages.proofs.Moves.{changed_in_err, resized_installed}
+use Rattle.jq_pages.proofs.Applied.{end_near, rises_near, far_near, rises_end, done_holds, done_inputs, done_sized, done_tail, done_stop, done_change, err_edit, ok_edit, old_count, sized_at, far_of}
 use Rattle.jq_pages.specs.private.Cuts.{AreCut, closing_if, made_pieces}
 use Rattle.jq_pages.proofs.Cuts.{done_splices}
 use Rattle.jq_pages.proofs.Edits.{pieces_length}
@@ -72,7 +73,7 @@ returns-in_err-made-clause-edits g c =
     subst₂ (λ (n : List Val) ps. Rises (g.S.Steps.starts c.args.steps.now) (g.S.Steps.starts c.run_edit.new.steps) (((i + length n) + length (drop (i + cut) page.inputs.items)) + count_in ps + 1))
     c.slice_of-new.ensures later c.run_edit.ensures.rises in
     ∥∥₁_map c.requires.held (λ h.
-    err_edit _ _ _ _ _ _ _ _ _ _ _ _ (changed_err _ c.from_residual.ensures.0)
+    err_edit _ _ _ _ _ _ _ _ _ _ _ _ (changed_in_err _ c.from_residual.ensures.0)
     (λ q m. rises_near g.S.Steps.seen r s e ps j i cut page put q _ _ place' (end_near g.S.Steps.seen r s e ps j i cut page put q c.requires.place.page c.index-page.ensures place' fits' h.holds h.sized entry' m) to')
     (rises_end g.S.Steps.seen ps j i cut page put _ _ c.requires.place.page c.index-page.ensures place' all'))
 
@@ -94,36 +95,36 @@ met g c n = c.in_ok-made.ensures.met n ∙ ap (λ z. kept_of g.S.Steps.seen (g.S
 closed : (g : _) (c : After-deref-6 g) → IfSome c.in_ok-made.made.tail (λ t. (length c.in_ok-made.made.runs.items ≡ length (drop (c.args.j + 1) c.args.pages.now.items)) × (piece_view t ≡ Fold.close (g.S.Steps.fold c.args.steps.now) (exit_of g.S.Steps.seen (g.S.Steps.seen c.in_ok-made.made.run.exit) c.in_ok-made.made.runs.items)))
 closed g c = subst (λ (z : List _). IfSome c.in_ok-made.made.tail (λ t. (length c.in_ok-made.made.runs.items ≡ length z) × (piece_view t ≡ Fold.close (g.S.Steps.fold c.args.steps.now) (exit_of g.S.Steps.seen (g.S.Steps.seen c.in_ok-made.made.run.exit) c.in_ok-made.made.runs.items)))) (later g c) c.in_ok-made.ensures.closed
 
-kept : (g : _) (c : After-deref-6 g) → Holds g.S.Steps.seen (g.S.Steps.fold c.args.steps.now) (g.S.Steps.seen c.args.first.now) c.args.pages.now.items → Holds g.S.Steps.seen (g.S.Steps.fold c.args.steps.now) (g.S.Steps.seen c.args.first.now) c.install.new.pages.items
+kept : (g : _) (c : After-deref-6 g) → Holds g.S.Steps.seen (g.S.Steps.fold c.args.steps.now) (g.S.Steps.seen c.args.first.now) c.args.pages.now.items → Holds g.S.Steps.seen (g.S.Steps.fold c.args.steps.now) (g.S.Steps.seen c.args.first.now) c.exchange-value.new.pages.items
 kept g c h =
-    done_holds g.S.Steps.seen _ _ _ c.args.pages.now.items c.install.new.pages.items c.args.j c.args.i c.args.cut c.index-page.result.now (option_to_list c.args.put) c.in_ok-made.made.run c.in_ok-made.made.runs.items c.install.ensures c.requires.place.page c.index-page.ensures h (entry g ((goal.at.sum_again-requires-clause-others g c).After-run_edit)) (run g c) (over g c)
+    done_holds g.S.Steps.seen _ _ _ c.args.pages.now.items c.exchange-value.new.pages.items c.args.j c.args.i c.args.cut c.index-page.result.now (option_to_list c.args.put) c.in_ok-made.made.run c.in_ok-made.made.runs.items c.exchange-value.ensures.pages c.requires.place.page c.index-page.ensures h (entry g ((goal.at.sum_again-requires-clause-others g c).After-run_edit)) (run g c) (over g c)
     (done_stop c.in_ok-made.made.tail _ _ _ _ _ (met g c) (closed g c))
 
 abbrev start : (g : _) (c : After-deref-6 g) → After-run_edit g
 start g c = (goal.at.sum_again-requires-clause-others g c).After-run_edit
 
 -- the number of inputs of each page
-sized : (g : _) (c : After-deref-6 g) → IsSized c.args.pages.now.items → IsSized c.install.new.pages.items
-sized g c z = done_sized c.args.pages.now.items c.install.new.pages.items c.args.j c.args.i c.args.cut c.index-page.result.now (option_to_list c.args.put) c.in_ok-made.made.run c.in_ok-made.made.runs.items c.install.ensures c.requires.place.page c.index-page.ensures (place g (start g c)) (fits g (start g c)) z
+sized : (g : _) (c : After-deref-6 g) → IsSized c.args.pages.now.items → IsSized c.exchange-value.new.pages.items
+sized g c z = done_sized c.args.pages.now.items c.exchange-value.new.pages.items c.args.j c.args.i c.args.cut c.index-page.result.now (option_to_list c.args.put) c.in_ok-made.made.run c.in_ok-made.made.runs.items c.exchange-value.ensures.pages c.requires.place.page c.index-page.ensures (place g (start g c)) (fits g (start g c)) z
 
 pub sum_again-requires-clause-others : goal.sum_again-requires-clause-others
 sum_again-requires-clause-others g c =
     subst₂ (λ (z : List _) n. IsIndexBut c.args.groups.now.items z (c.args.j / 128) ((c.args.j + n) / 128 + 1)) (sym c.deref-6.ensures.value) (sym (c.len.ensures ∙ c.in_ok-made.made.runs.ok.0))
-    (index_installed c.args.groups.now.items c.args.pages.now.items c.install.new.pages.items c.args.j c.args.i (option_to_list c.args.put) c.args.cut c.in_ok-made.made.run c.in_ok-made.made.runs.items c.install.ensures c.requires.place.page c.requires.index)
+    (index_installed c.args.groups.now.items c.args.pages.now.items c.exchange-value.new.pages.items c.args.j c.args.i (option_to_list c.args.put) c.args.cut c.in_ok-made.made.run c.in_ok-made.made.runs.items c.exchange-value.ensures.pages c.requires.place.page c.requires.index)
 
 pub sum_again-requires-clause-few : goal.sum_again-requires-clause-few
 sum_again-requires-clause-few g c =
     subst (λ (z : List _). (n : ℕ) → IsFew (group_pages n z)) (sym c.deref-6.ensures.value)
-    (∥∥₁_elim c.requires.held (hlevel props) (λ h. few_group g.S.Steps.seen (g.S.Steps.fold c.args.steps.now) (g.S.Steps.seen c.args.first.now) c.install.new.pages.items (kept g c h.holds) (sized g c h.sized)))
+    (∥∥₁_elim c.requires.held (hlevel props) (λ h. few_group g.S.Steps.seen (g.S.Steps.fold c.args.steps.now) (g.S.Steps.seen c.args.first.now) c.exchange-value.new.pages.items (kept g c h.holds) (sized g c h.sized)))
 
 pub returns-clause-held : goal.returns-clause-held
 returns-clause-held g d =
     let c = (goal.at.returns-clause-held g d).After-deref-6 in
     ∥∥₁_map c.requires.held (λ h.
-    subst (λ z. IsHeld g.S.Steps.seen z (g.S.Steps.seen c.args.first.now) c.install.new.pages.items c.replace_tail-closed.new.tail) (sym c.in_ok-made.ensures.same) (record {
+    subst (λ z. IsHeld g.S.Steps.seen z (g.S.Steps.seen c.args.first.now) c.exchange-value.new.pages.items c.exchange-value.new.tail) (sym c.in_ok-made.ensures.same) (record {
       holds = kept g c h.holds;
       sized = sized g c h.sized;
-      tail = done_tail g.S.Steps.seen (g.S.Steps.fold c.args.steps.now) (g.S.Steps.seen c.args.first.now) c.args.pages.now.items c.install.new.pages.items c.args.j c.args.i c.args.cut c.index-page.result.now (option_to_list c.args.put) c.in_ok-made.made.run c.in_ok-made.made.runs.items c.install.ensures c.in_ok-made.made.tail c.args.tail.now c.replace_tail-closed.new.tail c.requires.place.page c.index-page.ensures (fit g c) (met g c) (closed g c) c.replace_tail-closed.ensures.tail h.tail;
+      tail = done_tail g.S.Steps.seen (g.S.Steps.fold c.args.steps.now) (g.S.Steps.seen c.args.first.now) c.args.pages.now.items c.exchange-value.new.pages.items c.args.j c.args.i c.args.cut c.index-page.result.now (option_to_list c.args.put) c.in_ok-made.made.run c.in_ok-made.made.runs.items c.exchange-value.ensures.pages c.in_ok-made.made.tail c.args.tail.now c.exchange-value.new.tail c.requires.place.page c.index-page.ensures (fit g c) (met g c) (closed g c) c.exchange-value.ensures.tail h.tail;
     }))
 
 from_is : (a i k : ℕ) → a + i ≡ k → k - i ≡ a
@@ -162,17 +163,20 @@ few g c =
 cut_within : (i cut n k old more : ℕ) → i + cut ≤ n → old ≡ n + k → cut ≤ old + more
 cut_within i cut n k old more a b = omega arith
 
-pub overflow_sub-result-2 : goal.overflow_sub-result-2
-overflow_sub-result-2 g d =
-    let c = (goal.at.overflow_sub-result-2 g d).After-deref-6 in cut_within _ _ _ _ _ _ (place g (start g c)) (old_is g c)
+pub overflow_sub-edited-2 : goal.overflow_sub-edited-2
+overflow_sub-edited-2 g d =
+    let c = (goal.at.overflow_sub-edited-2 g d).After-deref-6 in cut_within _ _ _ _ _ _ (place g (start g c)) (old_is g c)
 
-pub overflow_add-result : goal.overflow_add-result
-overflow_add-result g d =
-    let c = (goal.at.overflow_add-result g d).After-deref-6 in
+pub overflow_add-edited : goal.overflow_add-edited
+overflow_add-edited g d =
+    let c = (goal.at.overflow_add-edited g d).After-deref-6 in
     let f : c.measure-old.result ≤ count_in c.args.pages.now.items = few g c in
     let p : length c.index-page.result.now.inputs.items + length (option_to_list c.args.put) ≤ 64 + c.args.cut = fits g (start g c) in
     let n : length c.slice_of-new.result.now ≡ length (option_to_list c.args.put) = ap (λ (z : List Val). length z) c.slice_of-new.ensures in
     omega (arith, f, p, n, c.requires.few, c.requires.place.one)
+
+closes : (g : _) (c : After-deref-6 g) → IsTrue c.is_closed-closed.result ↔ IsSome c.in_ok-made.made.tail
+closes g c = c.is_closed-closed.ensures
 
 pub returns-clause-edits : goal.returns-clause-edits
 returns-clause-edits g d =
@@ -180,8 +184,8 @@ returns-clause-edits g d =
     let b = start g c in
     ∥∥₁_map c.requires.held (λ h. let z = h.sized in
     ok_edit _ _ _ _ _ _ _ _ _ _ _ _ _ _
-    (done_inputs c.args.pages.now.items c.install.new.pages.items c.args.j c.args.i c.args.cut c.index-page.result.now (option_to_list c.args.put) c.in_ok-made.made.run c.in_ok-made.made.runs.items c.install.ensures c.requires.place.page c.index-page.ensures (place g b))
-    (done_change g.S.Steps.seen (g.S.Steps.fold c.args.steps.now) (g.S.Steps.seen c.args.first.now) c.args.pages.now.items c.install.new.pages.items c.args.j c.args.i c.args.cut c.index-page.result.now (option_to_list c.args.put) c.in_ok-made.made.run c.in_ok-made.made.runs.items c.install.ensures c.in_ok-made.made.tail _ _ c.requires.place.page c.index-page.ensures (place g b) (fits g b) (sized_at c.args.pages.now.items c.args.j c.index-page.result.now c.requires.place.page c.index-page.ensures z) h.holds (kept g c h.holds) (fit g c) (closed g c) (c.replace_tail-closed.ensures.closed.0) (before g c) (total g c) (ap (λ (n : List Val). (c.measure-old.result + length n) - c.args.cut) c.slice_of-new.ensures))
+    (done_inputs c.args.pages.now.items c.exchange-value.new.pages.items c.args.j c.args.i c.args.cut c.index-page.result.now (option_to_list c.args.put) c.in_ok-made.made.run c.in_ok-made.made.runs.items c.exchange-value.ensures.pages c.requires.place.page c.index-page.ensures (place g b))
+    (done_change g.S.Steps.seen (g.S.Steps.fold c.args.steps.now) (g.S.Steps.seen c.args.first.now) c.args.pages.now.items c.exchange-value.new.pages.items c.args.j c.args.i c.args.cut c.index-page.result.now (option_to_list c.args.put) c.in_ok-made.made.run c.in_ok-made.made.runs.items c.exchange-value.ensures.pages c.in_ok-made.made.tail _ _ c.requires.place.page c.index-page.ensures (place g b) (fits g b) (sized_at c.args.pages.now.items c.args.j c.index-page.result.now c.requires.place.page c.index-page.ensures z) h.holds (kept g c h.holds) (fit g c) (closed g c) ((closes g c).0) (before g c) (total g c) (ap (λ (n : List Val). (c.measure-old.result + length n) - c.args.cut) c.slice_of-new.ensures))
     (λ q m. far_of c.args.pages.now.items c.args.j c.args.i c.args.cut c.index-page.result.now (option_to_list c.args.put) (length c.in_ok-made.made.runs.items) q (c.args.k - c.args.i) c.measure-old.result _ (before g c) (old_is g c) (place g b) (ap (λ (n : List Val). (c.measure-old.result + length n) - c.args.cut) c.slice_of-new.ensures)
     (far_near g.S.Steps.seen (g.S.Steps.fold c.args.steps.now) (g.S.Steps.seen c.args.first.now) (g.S.Steps.seen c.kept_after-entry.result.now) c.args.pages.now.items c.args.j c.args.i c.args.cut c.index-page.result.now (option_to_list c.args.put) q (length c.in_ok-made.made.runs.items) (past _ _ _ m.after)
     (end_near g.S.Steps.seen (g.S.Steps.fold c.args.steps.now) (g.S.Steps.seen c.args.first.now) (g.S.Steps.seen c.kept_after-entry.result.now) c.args.pages.now.items c.args.j c.args.i c.args.cut c.index-page.result.now (option_to_list c.args.put) q c.requires.place.page c.index-page.ensures (place g b) (fits g b) h.holds z (entry g b) m)
@@ -219,7 +223,7 @@ pub returns-in_err-splices-clause-edits : goal.returns-in_err-splices-clause-edi
 returns-in_err-splices-clause-edits g c =
     let b = (goal.at.returns-in_err-splices-clause-edits g c).After-run_edit in
     ∥∥₁_map c.requires.held (λ h. let z = h.sized in
-    err_edit _ _ _ _ _ _ _ _ _ _ _ _ (changed_err _ c.from_residual-in_err-splices.ensures.0) (near g b h.holds z)
+    err_edit _ _ _ _ _ _ _ _ _ _ _ _ (changed_in_err _ c.from_residual-in_err-splices.ensures.0) (near g b h.holds z)
     (rises_end g.S.Steps.seen c.args.pages.now.items c.args.j c.args.i c.args.cut c.index-page.result.now (option_to_list c.args.put) _ _ c.requires.place.page c.index-page.ensures (place g b) (all g b)))
 
 pub returns-clause-spliced : goal.returns-clause-spliced
@@ -227,12 +231,28 @@ returns-clause-spliced g d =
     let c = (goal.at.returns-clause-spliced g d).After-deref-6 in
     let b = start g c in
     ∥∥₁_elim c.requires.held (hlevel props) (λ h.
-    done_splices g.S.Steps.seen (g.S.Steps.fold c.args.steps.now) (g.S.Steps.seen c.args.first.now) c.args.pages.now.items c.install.new.pages.items c.args.j c.args.i c.args.cut c.index-page.result.now (option_to_list c.args.put) c.in_ok-made.made.run c.in_ok-made.made.runs.items c.install.ensures c.in_ok-made.made.tail
-    _ _ _ (piece_view c.args.head.now) c.args.tail.now c.replace_tail-closed.new.tail c.requires.place.page c.index-page.ensures (place g b) h.holds (kept g c h.holds) (fit g c) (before g c) (total g c) (ap (λ (n : List Val). (c.measure-old.result + length n) - c.args.cut) c.slice_of-new.ensures)
-    c.replace_tail-closed.ensures.closed c.replace_tail-closed.ensures.tail (cuts g c))
+    done_splices g.S.Steps.seen (g.S.Steps.fold c.args.steps.now) (g.S.Steps.seen c.args.first.now) c.args.pages.now.items c.exchange-value.new.pages.items c.args.j c.args.i c.args.cut c.index-page.result.now (option_to_list c.args.put) c.in_ok-made.made.run c.in_ok-made.made.runs.items c.exchange-value.ensures.pages c.in_ok-made.made.tail
+    _ _ _ (piece_view c.args.head.now) c.args.tail.now c.exchange-value.new.tail c.requires.place.page c.index-page.ensures (place g b) h.holds (kept g c h.holds) (fit g c) (before g c) (total g c) (ap (λ (n : List Val). (c.measure-old.result + length n) - c.args.cut) c.slice_of-new.ensures)
+    (closes g c) c.exchange-value.ensures.tail (cuts g c))
 
 pub returns-clause-filled : goal.returns-clause-filled
-returns-clause-filled g c h = installed_but c.args.pages.now.items c.install.new.pages.items c.args.j c.args.i (option_to_list c.args.put) c.args.cut c.in_ok-made.made.run c.in_ok-made.made.runs.items c.install.ensures c.requires.place.page h
+returns-clause-filled g c h = installed_but c.args.pages.now.items c.exchange-value.new.pages.items c.args.j c.args.i (option_to_list c.args.put) c.args.cut c.in_ok-made.made.run c.in_ok-made.made.runs.items c.exchange-value.ensures.pages c.requires.place.page h
 
 pub returns-clause-length : goal.returns-clause-length
-returns-clause-length g c = installed_length c.args.pages.now.items c.install.new.pages.items c.args.j c.args.i (option_to_list c.args.put) c.args.cut c.in_ok-made.made.run c.in_ok-made.made.runs.items c.install.ensures c.requires.place.page
+returns-clause-length g c = installed_length c.args.pages.now.items c.exchange-value.new.pages.items c.args.j c.args.i (option_to_list c.args.put) c.args.cut c.in_ok-made.made.run c.in_ok-made.made.runs.items c.exchange-value.ensures.pages c.requires.place.page
+
+runs_there : (j n m d k : ℕ) → n ≤ d → d ≡ m - (j + 1) → j < m → k ≡ m → j + 1 + n ≤ k
+runs_there j n m d k a b c e = omega arith
+
+pub returns-clause-room : goal.returns-clause-room
+returns-clause-room g d z n =
+    let c = (goal.at.returns-clause-room g d).After-deref-6 in
+    let same = installed_length c.args.pages.now.items c.exchange-value.new.pages.items c.args.j c.args.i (option_to_list c.args.put) c.args.cut c.in_ok-made.made.run c.in_ok-made.made.runs.items c.exchange-value.ensures.pages c.requires.place.page in (
+      subst (λ n. c.args.j + 1 + n ≤ length c.exchange-value.new.pages.items) (sym c.exchange-value.ensures.runs) (runs_there c.args.j _ _ _ _ (fit g c) (length-drop (c.args.j + 1) c.args.pages.now.items) c.requires.place.page same),
+      c.exchange-value.ensures.room z n,
+    )
+
+pub returns-clause-resized : goal.returns-clause-resized
+returns-clause-resized g d =
+    let c = (goal.at.returns-clause-resized g d).After-deref-6 in
+    resized_installed c.args.pages.now.items c.exchange-value.new.pages.items c.args.j c.args.i c.args.cut c.index-page.result.now (option_to_list c.args.put) c.in_ok-made.made.run c.in_ok-made.made.runs.items c.exchange-value.ensures.pages c.requires.place.page c.index-page.ensures (place g (start g c))
