@@ -118,13 +118,6 @@ impl<S: Steps> PagedSession<S> {
         }
     }
 
-    /// Gives the steps back.
-    pub(crate) fn into_steps(self) -> S
-        ensures { S.starts result ≡ starts_of self.pages }
-    {
-        self.pages.into_steps()
-    }
-
     /// The count of starts.
     pub(crate) fn starts(&self) -> u64
         ensures { result ≡ starts_of self.now.pages }

@@ -183,17 +183,6 @@ impl Session {
         }
     }
 
-    /// Ends the session, and returns its count of starts.
-    pub fn into_starts(self) -> Starts
-        ensures { starts_in result ≡ starts_of self }
-    {
-        match self.kept {
-            Kept::Each(session) => session.into_steps().starts,
-            Kept::Fold(session) => session.into_steps().into_starts(),
-            Kept::Whole(session) => session.into_starts(),
-        }
-    }
-
     /// The number of inputs.
     pub fn len(&self) -> u64
         ensures count { result ≡ length (state_of self.now).inputs }

@@ -169,13 +169,6 @@ impl WholeSession {
         Ok(follow)
     }
 
-    /// Gives the count of starts back.
-    pub(crate) fn into_starts(self) -> Starts
-        ensures { result ≡ self.starts }
-    {
-        self.starts
-    }
-
     /// The count of starts.
     pub(crate) fn starts(&self) -> u64
         ensures { result ≡ starts_in self.now.starts }
