@@ -1,10 +1,12 @@
--- Lists of inputs that are joined from parts of another list.
-use Rattle.std.proofs.Common.{◌≡◌, ℕ, ◌+◌, ◌-◌, ◌<◌, List, [], ◌∷◌, ◌++◌, length, take, drop, set, map, sym, ap, ◌∙◌, append_assoc, append-nil, add-one, arith}
+-- Lists of inputs that are joined from parts of another list, and the inputs of pages.
+use Rattle.std.proofs.Common.{◌≡◌, ℕ, ◌+◌, ◌-◌, ◌<◌, List, [], ◌∷◌, ◌++◌, length, take, drop, set, map, slice_get, Some, sym, ap, ◌∙◌, append_assoc, append-nil, add-one, arith}
 use Rattle.std.proofs.lemmas.List.{take-map, drop-map, set_split, length-map, take_rest}
 use Rattle.std.specs.List as list
+use Rattle.std.specs.List.{flat_map}
 use Rattle.jv_meaning.specs.Value.{Value}
 use Rattle.jv_data.specs.View.{view}
 use Rattle.jv_data.specs.declared.values.Val.{Val}
+use Rattle.jq_session.proofs.Passing.{page_taken, part_more}
 
 -- the first inputs, the inputs after them, and the last inputs
 abbrev pub joined : List Val → List Val → List Val → List Value
@@ -39,3 +41,7 @@ joined_removed k old =
     ∙ ap (λ l. l ++ map view (drop (k + 1) old)) (sym (take-map view k old))
     ∙ ap (λ l. take k (map view old) ++ l) (sym (drop-map view (k + 1) old))
     ∙ ap (λ n. take k (map view old) ++ drop n (map view old)) (add-one k)
+
+-- the inputs of one page more
+pub page_added : (vss : List (List Value)) (j : ℕ) (vs : List Value) → slice_get vss j ≡ Some vs → flat_map (λ l. l) (take j vss) ++ vs ≡ flat_map (λ l. l) (take (j + 1) vss)
+page_added vss j vs e = sym (ap (λ n. flat_map (λ l. l) (take n vss)) (add-one j) ∙ ap (flat_map (λ l. l)) (page_taken vss j vs e) ∙ part_more (λ l. l) (take j vss) vs)

@@ -7,12 +7,13 @@ use Rattle.jq_pages.specs.Edits.{Reason, no_place, full, most_inputs}
 use Rattle.jq_pages.specs.declared.steps.Steps.{Ghosts}
 use Rattle.jq_starts.specs.Starts.{starts_in}
 use Rattle.jq_stream.specs.Filters.{filter_job, filter_mode}
+use Rattle.jq_syntax.specs.Chosen.{Chosen, chosen}
 use Rattle.jq_session.specs.States.{State, Point, point, state_in, whole}
+use Rattle.jq_session.specs.declared.kept.Kept.{Kept}
+use Rattle.jq_session.specs.declared.kept.Kept.TheVariants as kept
 use Rattle.jq_session.specs.declared.paged.PagedSession.{PagedSession}
 use Rattle.jq_session.specs.declared.refusals.Refusal.{Refusal}
 use Rattle.jq_session.specs.declared.refusals.Refusal.TheVariants as refusal
-use Rattle.jq_session.specs.declared.sessions.Kept.{Kept}
-use Rattle.jq_session.specs.declared.sessions.Kept.TheVariants as kept
 use Rattle.jq_session.specs.declared.sessions.Session.{Session}
 use Rattle.jq_session.specs.declared.whole.WholeSession.{WholeSession}
 
@@ -41,6 +42,10 @@ starts_kept (kept.Whole s) = starts_in s.starts
 -- the count of its starts, which goes on from the one that it was started with
 abbrev pub starts_of : Session → ℕ
 starts_of s = starts_kept s.kept
+
+-- the options under which its filters are compiled
+abbrev pub options_of : Session → Chosen
+options_of s = chosen s.options
 
 abbrev pub point_of : Session → Point
 point_of s = point (state_of s) (starts_of s)

@@ -1,5 +1,5 @@
 -- What an edit changed, as splices of the output and of the errors.
-use Rattle.std.specs.Prelude.{◌≡◌, ℕ, List, []}
+use Rattle.std.specs.Prelude.{◌≡◌, ℕ, List, [], length}
 use Rattle.std.specs.List.{flat_map}
 use Rattle.jq_meaning.specs.Runs.{Run, Item, none}
 use Rattle.jq_pages.specs.Changes.{IsChange}
@@ -9,6 +9,7 @@ use Rattle.jq_pages.specs.Folds.{Folded}
 use Rattle.jq_pages.specs.Pieces.{PieceView}
 use Rattle.jq_pages.specs.Splices.{IsSplice, came}
 use Rattle.jq_pages.specs.declared.changes.Change.{Change}
+use Rattle.jq_pages.specs.declared.splices.Splice.{Splice}
 use Rattle.jq_stream.specs.Outcomes.{Job, printed_of, ending_report}
 use Rattle.jq_session.specs.States.{Plan, each, fold, whole, State, outcome}
 use Rattle.jq_session.specs.declared.splices.Follow.{Follow}
@@ -47,4 +48,17 @@ pub record Follows (f : Follow) (edit : Edit) (old new : State) : Type 0 where
   pub out : IsSplice f.out (outcome old).output (outcome new).output
   pub err : IsSplice f.err (outcome old).errors (outcome new).errors
   pub put : IsPut old.plan edit f old new
+  pub status : f.status ≡ (outcome new).status
+
+-- The splice replaces all old bytes by all new ones.
+pub record ReplacesAll (s : Splice) (old new : List ℕ) : Type 0 where
+  pub splice : IsSplice s old new
+  pub at : s.at ≡ 0
+  pub cut : s.cut ≡ length old
+  pub put : s.put.items ≡ new
+
+-- The answer to another filter, which writes everything again.
+pub record FollowsFilter (f : Follow) (old new : State) : Type 0 where
+  pub out : ReplacesAll f.out (outcome old).output (outcome new).output
+  pub err : ReplacesAll f.err (outcome old).errors (outcome new).errors
   pub status : f.status ≡ (outcome new).status

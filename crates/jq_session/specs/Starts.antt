@@ -33,6 +33,6 @@ first_starts each first = run_count first.mode first.job first.inputs
 first_starts (fold f) first = length first.inputs + 2
 first_starts whole first = run_count first.mode first.job first.inputs
 
--- The start of a session may start the filter so often.
+-- The start of a session may start the filter so often, and so may a session start another filter that it takes.
 abbrev pub IsFirstRun : State → (old_starts new_starts : ℕ) → Type 0
 IsFirstRun first a b = Rises a b (first_starts first.plan first)

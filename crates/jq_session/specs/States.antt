@@ -74,7 +74,11 @@ with_inputs s (Err reason) = Err reason
 abbrev pub after : Edit → State → Result State Reason
 after edit s = with_inputs s (edited edit s.inputs)
 
--- A point of a session: its state, and how often its filter was started up to there.
+-- Another filter changes all but the inputs.
+abbrev pub refiltered : Filter → State → State
+refiltered f s = state_in f s.inputs
+
+-- A point of a session: its state, and how often its filters were started up to there.
 pub record Point : Type 0 where
   pub state : State
   pub starts : ℕ

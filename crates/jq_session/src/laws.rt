@@ -4,9 +4,9 @@ ghost use Rattle.jq_session.specs.laws.Plans.{PlansAreByTheTree};
 
 use jq_fold_steps::laws::a_compiled_fold_comes_after_the_prelude;
 
-/// After any calls, accepted or refused, a session's state is its first state with the inputs that the accepted edits leave,
-/// and what it writes is the outcome of runs from scratch on these inputs. The filter was started no more often than the edits may
-/// start it together.
+/// After any calls, accepted or refused, a session's state is that of the last filter it took, with the inputs that the accepted edits
+/// leave, and what it writes is the outcome of runs from scratch on these inputs. The filters were started no more often than the
+/// calls may start them together.
 #[tactic(auto, using(crate::proofs::Calls::stands_for_present, crate::proofs::Calls::always_right, crate::proofs::Calls::no_more))]
 pub fn a_session_stands_for_its_present_inputs()
     ensures stands { StandsForPresentInputs }
@@ -14,7 +14,7 @@ pub fn a_session_stands_for_its_present_inputs()
     ensures starts { StartsNoMore }
 {}
 
-/// After any calls, a client that applied the splices of the accepted edits has the output and the errors.
+/// After any calls, a client that applied the splices of the accepted ones has the output and the errors.
 #[tactic(auto, using(crate::proofs::Calls::follows_output, crate::proofs::Calls::follows_errors))]
 pub fn splices_lead_to_what_is_written()
     ensures output { FollowsOutput }

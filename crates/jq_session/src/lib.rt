@@ -9,6 +9,7 @@
 #![tactic(auto)]
 
 mod each;
+mod kept;
 pub mod laws;
 mod listing;
 mod paged;

@@ -23,7 +23,8 @@ pub(crate) fn joined(
     Ok(inputs)
 }
 
-fn add_copies(inputs: &mut Vec<Val>, values: &[Val]) -> Result<(), NoMemory>
+/// Adds copies of these values.
+pub(crate) fn add_copies(inputs: &mut Vec<Val>, values: &[Val]) -> Result<(), NoMemory>
     ensures { OnOk result (map view inputs.new.items ≡ map view inputs.old.items ++ map view values.now) }
 {
     for value in values {

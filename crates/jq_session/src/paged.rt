@@ -3,16 +3,17 @@ ghost use Rattle.std.specs.Prelude.{◌≡◌};
 ghost use Rattle.jq_pages.specs.Contents.{folded_of};
 ghost use Rattle.jq_session.specs.private.Kept.{Serves};
 
+use crate::listing::add_copies;
 use crate::refusals::{Refusal, refusal_of};
 use crate::splices::Follow;
 use crate::statuses::status_of;
-use crate::writing::{Part, write_pieces};
+use crate::writing::{Part, bytes_in, write_pieces};
 use jq_devices::{Watched, Write};
 use jq_pages::{
     Edited, NotStarted as PagesNotStarted, Pages, Steps, totals_count_bytes_and_failures,
 };
 use jq_stream::Filter;
-use jv_data::Val;
+use jv_data::{NoMemory, Val};
 use std::alloc::Global;
 use std::rc::Rc;
 
@@ -116,6 +117,35 @@ impl<S: Steps> PagedSession<S> {
             status: self.status(),
             runs: self.starts() - before,
         }
+    }
+
+    /// Copies of the inputs.
+    pub(crate) fn inputs(&self, alloc: Global) -> Result<Vec<Val>, NoMemory>
+        ensures copied { IfOk result (λ inputs. map view inputs.items ≡ (paged_state self.now).inputs) }
+        ensures room { IfOk result (λ inputs. length inputs.items ≤ most_inputs) }
+    {
+        let mut inputs = Vec::with_capacity(alloc, self.len() as usize)?;
+        for j in 0..self.pages.page_count() {
+            add_copies(&mut inputs, self.pages.inputs(j))?;
+        }
+        Ok(inputs)
+    }
+
+    /// The output and the errors.
+    pub(crate) fn written(&self, alloc: Global) -> Result<(Vec<u8>, Vec<u8>), NoMemory>
+        ensures output { IfOk result (λ w. w.0.items ≡ (outcome (paged_state self.now)).output) }
+        ensures errors { IfOk result (λ w. w.1.items ≡ (outcome (paged_state self.now)).errors) }
+    {
+        let output = bytes_in(alloc, &self.pages, Part::Output)?;
+        let errors = bytes_in(alloc, &self.pages, Part::Errors)?;
+        Ok((output, errors))
+    }
+
+    /// Gives the steps back.
+    pub(crate) fn into_steps(self) -> S
+        ensures { S.starts result ≡ starts_of self.pages }
+    {
+        self.pages.into_steps()
     }
 
     /// The count of starts.

@@ -1,32 +1,23 @@
 // A filter over a list of inputs that is edited.
-use crate::each::EachInput;
-use crate::paged::PagedSession;
-use crate::paging::{start_each, start_fold};
-use crate::plans::{Following, plan_for};
+use crate::kept::Kept;
 use crate::refusals::{NotStarted, Refusal};
-use crate::splices::Follow;
-use crate::whole::WholeSession;
+use crate::splices::{Follow, all_of};
 use jq_devices::{Watched, Write};
-use jq_fold_steps::FoldSteps;
 use jq_pages::MOST_INPUTS;
 use jq_starts::Starts;
 use jq_stream::Filter;
-use jv_data::Val;
+use jq_syntax::Options;
+use jv_data::{NoMemory, Val};
 use std::alloc::Global;
+use std::mem;
 
 /// A filter over a list of inputs that is edited. Its output, its errors and its status are always those of runs from scratch
 /// on the present inputs, which are numbered from 0.
 #[derive(Drop)]
 pub struct Session {
+    alloc: Global,
+    options: Options,
     kept: Kept,
-}
-
-// What is kept, by how an edit is followed.
-#[derive(Drop)]
-pub(crate) enum Kept {
-    Each(PagedSession<EachInput>),
-    Fold(PagedSession<FoldSteps>),
-    Whole(WholeSession),
 }
 
 impl Session {
@@ -37,16 +28,19 @@ impl Session {
     ghost use Rattle.jq_devices.specs.Writing.{AppendsFirst};
     ghost use Rattle.jq_pages.specs.Edits.{insert, most_inputs, remove, replace};
     ghost use Rattle.jq_starts.specs.Starts.{starts_in};
-    ghost use Rattle.jq_session.specs.Sessions.{IsRefusal, IsStartRefusal, starts_of, state_of};
-    ghost use Rattle.jq_session.specs.Splices.{Follows};
+    ghost use Rattle.jq_syntax.specs.Chosen.{chosen};
+    ghost use Rattle.jq_session.specs.Sessions.{IsRefusal, IsStartRefusal, options_of, point_of, starts_kept, starts_of, state_kept, state_of};
+    ghost use Rattle.jq_session.specs.Splices.{Follows, FollowsFilter};
     ghost use Rattle.jq_session.specs.Starts.{IsFirstRun, IsStarted};
-    ghost use Rattle.jq_session.specs.States.{after, outcome, state_in};
+    ghost use Rattle.jq_session.specs.States.{after, outcome, refiltered, state_in};
 
     /// Starts a session of a filter over its first inputs, and makes the runs on them. Each start of the filter is counted. It is
-    /// refused if there are more than 1,000,000 inputs, or if memory runs out; the count then comes back with the refusal.
+    /// refused if there are more than 1,000,000 inputs, or if memory runs out; the count then comes back with the refusal. The options
+    /// are those under which the filter was compiled; the session keeps them.
     pub fn start(
         alloc: Global,
         starts: Starts,
+        options: Options,
         filter: Filter,
         inputs: Vec<Val>,
     ) -> Result<Session, NotStarted>
@@ -56,6 +50,7 @@ impl Session {
         ensures started { IfOk result (λ session. IsFirstRun (state_in filter (map view inputs.items)) (starts_in starts) (starts_of session)) }
         ensures at_most { IfErr result (λ n. IsFirstRun (state_in filter (map view inputs.items)) (starts_in starts) (starts_in n.starts)) }
         ensures full { most_inputs < length inputs.items → IfErr result (λ n. starts_in n.starts ≡ starts_in starts) }
+        ensures options { IfOk result (λ session. options_of session ≡ chosen options) }
     {
         if inputs.len() > MOST_INPUTS {
             return Err(NotStarted {
@@ -63,12 +58,12 @@ impl Session {
                 refusal: Refusal::Full,
             });
         }
-        let kept = match plan_for(&filter) {
-            Following::Each => Kept::Each(start_each(alloc, starts, filter, inputs)?),
-            Following::Fold => Kept::Fold(start_fold(alloc, starts, filter, inputs)?),
-            Following::Whole => Kept::Whole(WholeSession::start(alloc, starts, filter, inputs)?),
-        };
-        Ok(Session { kept })
+        let kept = Kept::start(alloc, starts, filter, inputs)?;
+        Ok(Session {
+            alloc,
+            options,
+            kept,
+        })
     }
 
     /// Inserts an input in front of the one with this number, or after the last one if the number is the count.
@@ -79,6 +74,7 @@ impl Session {
         ensures unchanged { OnErr result (state_of self.new ≡ state_of self.old) }
         ensures runs { IfOk result (λ follow. starts_of self.new ≡ starts_of self.old + follow.runs) }
         ensures started { IsStarted (insert k (view value)) (state_of self.old) (starts_of self.old) (starts_of self.new) }
+        ensures options { options_of self.new ≡ options_of self.old }
     {
         match &mut self.kept {
             Kept::Each(session) => session.insert(k, value),
@@ -95,6 +91,7 @@ impl Session {
         ensures unchanged { OnErr result (state_of self.new ≡ state_of self.old) }
         ensures runs { IfOk result (λ follow. starts_of self.new ≡ starts_of self.old + follow.runs) }
         ensures started { IsStarted (replace k (view value)) (state_of self.old) (starts_of self.old) (starts_of self.new) }
+        ensures options { options_of self.new ≡ options_of self.old }
     {
         match &mut self.kept {
             Kept::Each(session) => session.replace(k, value),
@@ -111,6 +108,7 @@ impl Session {
         ensures unchanged { OnErr result (state_of self.new ≡ state_of self.old) }
         ensures runs { IfOk result (λ follow. starts_of self.new ≡ starts_of self.old + follow.runs) }
         ensures started { IsStarted (remove k) (state_of self.old) (starts_of self.old) (starts_of self.new) }
+        ensures options { options_of self.new ≡ options_of self.old }
     {
         match &mut self.kept {
             Kept::Each(session) => session.remove(k),
@@ -127,8 +125,61 @@ impl Session {
         ensures unchanged { OnErr result (state_of self.new ≡ state_of self.old) }
         ensures runs { IfOk result (λ follow. starts_of self.new ≡ starts_of self.old + follow.runs) }
         ensures started { IsStarted (insert (length (state_of self.old).inputs) (view value)) (state_of self.old) (starts_of self.old) (starts_of self.new) }
+        ensures options { options_of self.new ≡ options_of self.old }
     {
         self.insert(self.len(), value)
+    }
+
+    /// Runs another filter over the present inputs, with its own count of starts, and takes it unless memory runs out. Returns the
+    /// answer, whose runs are those of the new filter, and the count of the old one. If it is refused, the session and its count are
+    /// unchanged, and the count that was passed in comes back.
+    pub fn refilter(
+        &mut self,
+        starts: Starts,
+        filter: Filter,
+    ) -> Result<(Follow, Starts), NotStarted>
+        ensures taken { OnOk result (state_of self.new ≡ refiltered filter (state_of self.old)) }
+        ensures follow { IfOk result (λ r. FollowsFilter r.0 (state_of self.old) (state_of self.new)) }
+        ensures returned { IfOk result (λ r. starts_in r.1 ≡ starts_of self.old) }
+        ensures runs { IfOk result (λ r. starts_of self.new ≡ starts_in starts + r.0.runs) }
+        ensures started { OnOk result (IsFirstRun (state_of self.new) (starts_in starts) (starts_of self.new)) }
+        ensures unchanged { OnErr result (point_of self.new ≡ point_of self.old) }
+        ensures refused { IfErr result (λ n. (n.refusal ≡ Refusal.NoMemory) × IsFirstRun (refiltered filter (state_of self.old)) (starts_in starts) (starts_in n.starts)) }
+        ensures options { options_of self.new ≡ options_of self.old }
+    {
+        let before = starts.count();
+        let kept = self.kept_for(starts, filter)?;
+        match kept.written(self.alloc) {
+            Ok((output, errors)) => {
+                let follow = Follow {
+                    out: all_of(self.out_len(), output),
+                    err: all_of(self.err_len(), errors),
+                    status: kept.status(),
+                    runs: kept.starts() - before,
+                };
+                let old = mem::replace(&mut self.kept, kept);
+                Ok((follow, old.into_starts()))
+            }
+            Err(NoMemory) => Err(NotStarted {
+                starts: kept.into_starts(),
+                refusal: Refusal::NoMemory,
+            }),
+        }
+    }
+
+    // Makes the runs of a filter on copies of the inputs.
+    fn kept_for(&self, starts: Starts, filter: Filter) -> Result<Kept, NotStarted>
+        ensures state { IfOk result (λ kept. state_kept kept ≡ refiltered filter (state_of self.now)) }
+        ensures started { IfOk result (λ kept. IsFirstRun (refiltered filter (state_of self.now)) (starts_in starts) (starts_kept kept)) }
+        ensures refused { IfErr result (λ n. (n.refusal ≡ Refusal.NoMemory) × IsFirstRun (refiltered filter (state_of self.now)) (starts_in starts) (starts_in n.starts)) }
+    {
+        match self.kept.inputs(self.alloc) {
+            Ok(inputs) => Kept::start(self.alloc, starts, filter, inputs),
+            Err(NoMemory) => Err(NotStarted {
+                starts,
+                refusal: Refusal::NoMemory,
+            }),
+        }
     }
 
     /// Writes the output and flushes the writer. After a fault, the first bytes of it were written.
@@ -165,22 +216,28 @@ impl Session {
     pub fn status(&self) -> u8
         ensures { result ≡ (outcome (state_of self.now)).status }
     {
-        match &self.kept {
-            Kept::Each(session) => session.status(),
-            Kept::Fold(session) => session.status(),
-            Kept::Whole(session) => session.status(),
-        }
+        self.kept.status()
     }
 
     /// How often the filter was started, by the count that the session was started with.
     pub fn starts(&self) -> u64
         ensures { result ≡ starts_of self.now }
     {
-        match &self.kept {
-            Kept::Each(session) => session.starts(),
-            Kept::Fold(session) => session.starts(),
-            Kept::Whole(session) => session.starts(),
-        }
+        self.kept.starts()
+    }
+
+    /// The options that the session was started with. Another filter is compiled under them.
+    pub fn options(&self) -> &Options
+        ensures { chosen result.now ≡ options_of self.now }
+    {
+        &self.options
+    }
+
+    /// Ends the session, and returns its count of starts.
+    pub fn into_starts(self) -> Starts
+        ensures { starts_in result ≡ starts_of self }
+    {
+        self.kept.into_starts()
     }
 
     /// The number of inputs.

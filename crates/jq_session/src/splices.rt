@@ -1,6 +1,6 @@
 // What an edit changed.
-ghost use Rattle.std.specs.Prelude.{◌≡◌, IfOk};
-ghost use Rattle.jq_pages.specs.Splices.{IsSplice};
+ghost use Rattle.std.specs.Prelude.{◌≡◌, ℕ, List, length, IfOk};
+ghost use Rattle.jq_session.specs.Splices.{ReplacesAll};
 
 use jq_pages::Splice;
 use jv_data::NoMemory;
@@ -15,14 +15,21 @@ pub struct Follow {
     pub runs: u64,
 }
 
+/// The splice that replaces all bytes, of which there are so many, by these.
+pub(crate) fn all_of(count: u128, put: Vec<u8>) -> Splice
+    ensures { (old : List ℕ) → length old ≡ count → ReplacesAll result old put.items }
+{
+    Splice {
+        at: 0,
+        cut: count,
+        put,
+    }
+}
+
 /// The splice that replaces all old bytes by all new ones.
 pub(crate) fn replace_all(alloc: Global, old: &[u8], new: &[u8]) -> Result<Splice, NoMemory>
-    ensures splice { IfOk result (λ splice. IsSplice splice old.now new.now) }
-    ensures put { IfOk result (λ splice. splice.put.items ≡ new.now) }
+    ensures { IfOk result (λ splice. ReplacesAll splice old.now new.now) }
 {
-    Ok(Splice {
-        at: 0,
-        cut: old.len() as u128,
-        put: Vec::from_slice(alloc, new)?,
-    })
+    let put = Vec::from_slice(alloc, new)?;
+    Ok(all_of(old.len() as u128, put))
 }

@@ -1,9 +1,12 @@
 // A session whose edits make all runs again.
-ghost use Rattle.std.specs.Prelude.{◌≡◌, ◌≤◌, length, map};
+ghost use Rattle.std.specs.Prelude.{◌≡◌, ◌≤◌, ◌+◌, length, map, IfOk};
 ghost use Rattle.jv_data.specs.View.{view};
 ghost use Rattle.jq_pages.specs.Edits.{most_inputs};
+ghost use Rattle.jq_pages.specs.Folds.{Rises};
+ghost use Rattle.jq_starts.specs.Starts.{starts_in};
 ghost use Rattle.jq_stream.specs.Filters.{filter_job, filter_mode};
-ghost use Rattle.jq_stream.specs.Present.{values_outcome};
+ghost use Rattle.jq_stream.specs.Present.{run_count, values_outcome};
+ghost use Rattle.jq_session.specs.Splices.{ReplacesAll};
 
 use crate::listing::joined;
 use crate::refusals::{NotStarted, Refusal};
@@ -12,7 +15,7 @@ use jq_devices::{Watched, Write, write};
 use jq_pages::MOST_INPUTS;
 use jq_starts::Starts;
 use jq_stream::{Filter, Written, run_values};
-use jv_data::{NoMemory, Val};
+use jv_data::{NoMemory, Val, copies};
 use std::alloc::Global;
 
 /// A filter, its inputs and what its runs wrote. It owns the count of its starts.
@@ -30,14 +33,11 @@ pub(crate) struct WholeSession {
 }
 
 impl WholeSession {
-    ghost use Rattle.std.specs.Prelude.{Ok, ◌+◌, IfErr, IfOk, OnErr, OnOk};
+    ghost use Rattle.std.specs.Prelude.{Ok, IfErr, OnErr, OnOk};
     ghost use Rattle.std.specs.Io.KnownBytes.{Appends};
     ghost use Rattle.jq_devices.specs.Watched.{HasFailed, device_of, failures_of};
     ghost use Rattle.jq_devices.specs.Writing.{AppendsFirst};
     ghost use Rattle.jq_pages.specs.Edits.{Edit, insert, remove, replace};
-    ghost use Rattle.jq_pages.specs.Folds.{Rises};
-    ghost use Rattle.jq_starts.specs.Starts.{starts_in};
-    ghost use Rattle.jq_stream.specs.Present.{run_count};
     ghost use Rattle.jq_session.specs.Sessions.{IsRefusal, IsStartRefusal, whole_state};
     ghost use Rattle.jq_session.specs.Splices.{Follows};
     ghost use Rattle.jq_session.specs.Starts.{IsStarted};
@@ -149,24 +149,36 @@ impl WholeSession {
         ensures runs { IfOk result (λ follow. starts_in self.new.starts ≡ starts_in self.old.starts + follow.runs) }
         ensures rises { Rises (starts_in self.old.starts) (starts_in self.new.starts) (run_count (filter_mode self.old.filter) (filter_job self.old.filter) (map view inputs.items)) }
     {
-        let before = self.starts.count();
-        let settings = self.filter.settings();
-        let written = run_values(
-            self.alloc,
-            &self.filter.runner(),
-            settings,
-            &mut self.starts,
-            &inputs,
-        )?;
-        let follow = Follow {
-            out: replace_all(self.alloc, &self.written.output, &written.output)?,
-            err: replace_all(self.alloc, &self.written.errors, &written.errors)?,
-            status: written.status,
-            runs: self.starts.count() - before,
-        };
+        let (written, runs) = run_over(self.alloc, &self.filter, &mut self.starts, &inputs)?;
+        let follow = answer(self.alloc, &self.written, &written, runs)?;
         self.inputs = inputs;
         self.written = written;
         Ok(follow)
+    }
+
+    /// Copies of the inputs.
+    pub(crate) fn inputs(&self) -> Result<Vec<Val>, NoMemory>
+        ensures copied { IfOk result (λ inputs. map view inputs.items ≡ (whole_state self.now).inputs) }
+        ensures room { IfOk result (λ inputs. length inputs.items ≤ most_inputs) }
+    {
+        Ok(copies(self.alloc, &self.inputs)?)
+    }
+
+    /// The output and the errors.
+    pub(crate) fn written(&self) -> Result<(Vec<u8>, Vec<u8>), NoMemory>
+        ensures output { IfOk result (λ w. w.0.items ≡ (outcome (whole_state self.now)).output) }
+        ensures errors { IfOk result (λ w. w.1.items ≡ (outcome (whole_state self.now)).errors) }
+    {
+        let output = Vec::from_slice(self.alloc, &self.written.output)?;
+        let errors = Vec::from_slice(self.alloc, &self.written.errors)?;
+        Ok((output, errors))
+    }
+
+    /// Gives the count of starts back.
+    pub(crate) fn into_starts(self) -> Starts
+        ensures { result ≡ self.starts }
+    {
+        self.starts
     }
 
     /// The count of starts.
@@ -220,4 +232,38 @@ impl WholeSession {
     {
         write(writer, &self.written.errors).map_err(|_| Refusal::Write)
     }
+}
+
+// What the runs on these inputs write, and how many starts were counted.
+fn run_over(
+    alloc: Global,
+    filter: &Filter,
+    starts: &mut Starts,
+    inputs: &[Val],
+) -> Result<(Written, u64), NoMemory>
+    ensures output { IfOk result (λ r. r.0.output.items ≡ (values_outcome (filter_mode filter.now) (filter_job filter.now) (map view inputs.now)).output) }
+    ensures errors { IfOk result (λ r. r.0.errors.items ≡ (values_outcome (filter_mode filter.now) (filter_job filter.now) (map view inputs.now)).errors) }
+    ensures status { IfOk result (λ r. r.0.status ≡ (values_outcome (filter_mode filter.now) (filter_job filter.now) (map view inputs.now)).status) }
+    ensures runs { IfOk result (λ r. starts_in starts.new ≡ starts_in starts.old + r.1) }
+    ensures rises { Rises (starts_in starts.old) (starts_in starts.new) (run_count (filter_mode filter.now) (filter_job filter.now) (map view inputs.now)) }
+{
+    let before = starts.count();
+    let settings = filter.settings();
+    let written = run_values(alloc, &filter.runner(), settings, starts, inputs)?;
+    Ok((written, starts.count() - before))
+}
+
+// The answer where other bytes were written than before, by so many runs.
+fn answer(alloc: Global, old: &Written, new: &Written, runs: u64) -> Result<Follow, NoMemory>
+    ensures out { IfOk result (λ follow. ReplacesAll follow.out old.now.output.items new.now.output.items) }
+    ensures err { IfOk result (λ follow. ReplacesAll follow.err old.now.errors.items new.now.errors.items) }
+    ensures status { IfOk result (λ follow. follow.status ≡ new.now.status) }
+    ensures runs { IfOk result (λ follow. follow.runs ≡ runs) }
+{
+    Ok(Follow {
+        out: replace_all(alloc, &old.output, &new.output)?,
+        err: replace_all(alloc, &old.errors, &new.errors)?,
+        status: new.status,
+        runs,
+    })
 }

@@ -1,5 +1,5 @@
 // Pieces are written one after the other through a buffer of fixed size.
-ghost use Rattle.std.specs.Prelude.{◌≡◌, ◌++◌, [], map, IsFalse, IsTrue, OnErr, OnOk};
+ghost use Rattle.std.specs.Prelude.{◌≡◌, ◌++◌, [], map, IfOk, IsFalse, IsTrue, OnErr, OnOk};
 ghost use Rattle.std.specs.List.{flat_map};
 ghost use Rattle.std.specs.Io.KnownBytes.{Appends};
 ghost use Rattle.jq_devices.specs.Watched.{HasFailed, device_of, failures_of};
@@ -13,6 +13,8 @@ ghost use Rattle.jq_session.specs.private.Parts.{part_in};
 use arrayvec::ArrayVec;
 use jq_devices::{StreamFault, Watched, Write, write};
 use jq_pages::{Pages, Piece, Steps};
+use jv_data::NoMemory;
+use std::alloc::Global;
 
 // How many bytes are gathered for a write.
 const GATHERED: usize = 8_192;
@@ -127,4 +129,20 @@ pub(crate) fn write_pieces<S: Steps, W: Write>(
     }
     gathered.add(writer, bytes_of(part, pages.tail()))?;
     gathered.finish(writer)
+}
+
+/// The bytes of a part of all pieces, one after the other.
+pub(crate) fn bytes_in<S: Steps>(
+    alloc: Global,
+    pages: &Pages<S>,
+    part: Part,
+) -> Result<Vec<u8>, NoMemory>
+    ensures { IfOk result (λ bytes. bytes.items ≡ flat_map (part_in part) (all (folded_of pages.now))) }
+{
+    let mut writer = Watched::new(Vec::new(alloc));
+    // A write to a vector fails only if memory runs out.
+    match write_pieces(pages, part, &mut writer) {
+        Ok(()) => Ok(writer.into_device()),
+        Err(_) => Err(NoMemory),
+    }
 }

@@ -4,7 +4,7 @@
 use crate::failing::{ROWS, Row};
 use crate::fakes::{Bytes, Compared};
 use crate::programs::answer;
-use crate::starting::{compile_under, numbers, started as session_of};
+use crate::starting::{compile_under, numbers, options, started as session_of};
 use crate::turns::{no_inputs, shown};
 use jq_cli::{Config, UsageFault, config_of};
 use jq_devices::{StreamFault, Watched};
@@ -22,7 +22,7 @@ const MARK: usize = 424_243;
 
 /// Every allocation after this one may be refused.
 #[inline(never)]
-fn mark(alloc: Global) -> Result<Vec<u8>, AllocError> {
+pub(crate) fn mark(alloc: Global) -> Result<Vec<u8>, AllocError> {
     Vec::with_capacity(alloc, MARK)
 }
 
@@ -268,8 +268,8 @@ fn edit(session: &mut Session, (name, k, number, _): Line) -> Result<Follow, Ref
     }
 }
 
-// The session has this output, these errors and this status. Takes no memory.
-fn check_session(
+/// The session has this output, these errors and this status. Takes no memory.
+pub(crate) fn check_session(
     rt: &impl Abort,
     session: &Session,
     (out, err, status): (&str, &str, u8),
@@ -377,11 +377,12 @@ fn starts_of_sessions(rt: HostRuntime) -> Result<(), Fail> {
     let (first, inputs) = (compile_under(alloc, "", "6 / .")?, numbers(alloc, 2)?);
     let (second, others) = (compile_under(alloc, "", "6 / .")?, numbers(alloc, 2)?);
     let mark = mark(alloc)?;
-    let session = match Session::start(alloc, starts, first, inputs) {
+    let (options, others_options) = (options(alloc, ""), options(alloc, ""));
+    let session = match Session::start(alloc, starts, options, first, inputs) {
         Ok(session) => session,
         Err(refused) => {
             assert_eq!(rt; refused.refusal, Refusal::NoMemory);
-            match Session::start(alloc, refused.starts, second, others) {
+            match Session::start(alloc, refused.starts, others_options, second, others) {
                 Ok(session) => session,
                 Err(refused) => return Err(Fail::from(refused.refusal)),
             }

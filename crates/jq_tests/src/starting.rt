@@ -10,7 +10,7 @@ use std::rt::HostRuntime;
 use std::test::Fail;
 
 /// The options of a command with compact output and this flag, `-n`, `-s` or none.
-fn options(alloc: Global, flag: &str) -> Options {
+pub(crate) fn options(alloc: Global, flag: &str) -> Options {
     Options {
         null: flag == "-n",
         slurp: flag == "-s",
@@ -39,7 +39,8 @@ pub(crate) fn start(
     inputs: Vec<Val>,
 ) -> Result<Result<Session, NotStarted>, Fail> {
     let filter = compile_under(alloc, flag, filter)?;
-    Ok(Session::start(alloc, starts, filter, inputs))
+    let options = options(alloc, flag);
+    Ok(Session::start(alloc, starts, options, filter, inputs))
 }
 
 /// A session that starts.

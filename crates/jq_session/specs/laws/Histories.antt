@@ -1,80 +1,126 @@
 -- A session after any list of calls.
-use Rattle.std.specs.Prelude.{◌≡◌, ℕ, ◌+◌, List, [], ◌∷◌, Option, Some, None, is_some, if◌then◌else◌, Result, Ok, Err}
+use Rattle.std.specs.Prelude.{◌≡◌, ℕ, ◌+◌, List, [], ◌∷◌, Option, Some, None, Result, Ok, Err}
 use Rattle.jv_meaning.specs.Value.{Value}
 use Rattle.jq_stream.specs.Present.{values_outcome}
+use Rattle.jq_stream.specs.declared.filters.Filter.{Filter}
 use Rattle.jq_pages.specs.Edits.{Edit, Reason, edited}
 use Rattle.jq_pages.specs.Folds.{Rises}
 use Rattle.jq_pages.specs.Splices.{spliced}
 use Rattle.jq_pages.specs.declared.splices.Splice.{Splice}
-use Rattle.jq_session.specs.States.{State, Point, over, after, outcome}
-use Rattle.jq_session.specs.Splices.{Follows}
-use Rattle.jq_session.specs.Starts.{IsStarted}
+use Rattle.jq_session.specs.States.{State, Point, over, after, outcome, refiltered}
+use Rattle.jq_session.specs.Splices.{Follows, FollowsFilter}
+use Rattle.jq_session.specs.Starts.{IsFirstRun, IsStarted}
 use Rattle.jq_session.specs.declared.splices.Follow.{Follow}
 
--- A call of an edit, and its answer if the edit was accepted.
-pub record Call : Type 0 where
-  pub edit : Edit
-  pub answer : Option Follow
+-- A call, and its answer if it was accepted: an edit, or another filter.
+pub data Call : Type 0 where
+  edit_call : Edit → Option Follow → Call
+  filter_call : Filter → Option Follow → Call
 
--- What the contract of an edit says of the points before and after a call. A refused edit changes nothing. No edit starts the filter
--- more often than it may, also if it is refused, and the answer says how often it did.
+-- ---- a call
+
+-- What the contract of an edit says of the points before and after a call.
 pub record Made (edit : Edit) (follow : Follow) (old new : Point) : Type 0 where
   pub edited : after edit old.state ≡ Ok new.state
   pub follows : Follows follow edit old.state new.state
   pub runs : new.starts ≡ old.starts + follow.runs
 
-abbrev pub Leads : Edit → Option Follow → Point → Point → Type 0
-Leads edit (Some follow) old new = Made edit follow old new × IsStarted edit old.state old.starts new.starts
-Leads edit None old new = (new.state ≡ old.state) × IsStarted edit old.state old.starts new.starts
+-- The same for another filter. Its starts are added to those of the filters before it.
+pub record Refiltered (f : Filter) (follow : Follow) (old new : Point) : Type 0 where
+  pub taken : new.state ≡ refiltered f old.state
+  pub follows : FollowsFilter follow old.state new.state
+  pub runs : new.starts ≡ old.starts + follow.runs
+
+-- The call changed one point into another. One that was refused leaves the state unchanged.
+abbrev pub Changes : Call → Point → Point → Type 0
+Changes (edit_call edit (Some follow)) old new = Made edit follow old new
+Changes (edit_call edit None) old new = new.state ≡ old.state
+Changes (filter_call f (Some follow)) old new = Refiltered f follow old new
+Changes (filter_call f None) old new = new.state ≡ old.state
+
+-- A call may start a filter so often, accepted or refused.
+abbrev pub MayStart : Call → State → (old_starts new_starts : ℕ) → Type 0
+MayStart (edit_call edit answer) s a b = IsStarted edit s a b
+MayStart (filter_call f answer) s a b = IsFirstRun (refiltered f s) a b
+
+abbrev pub Leads : Call → Point → Point → Type 0
+Leads call old new = Changes call old new × MayStart call old.state old.starts new.starts
 
 -- These calls, one after the other, changed the first point into the last.
 abbrev pub IsHistory : List Call → Point → Point → Type 0
 IsHistory [] first last = last ≡ first
-IsHistory (call ∷ calls) first last = (next : Point) × Leads call.edit call.answer first next × IsHistory calls next last
+IsHistory (call ∷ calls) first last = (next : Point) × Leads call first next × IsHistory calls next last
+
+-- ---- what is present
 
 abbrev pub or_unchanged : Result (List Value) Reason → List Value → List Value
 or_unchanged (Ok inputs) unchanged = inputs
 or_unchanged (Err reason) unchanged = unchanged
 
 -- the inputs after a call
-abbrev pub called : Edit → Option Follow → List Value → List Value
-called edit answer inputs = if is_some answer then or_unchanged (edited edit inputs) inputs else inputs
+abbrev pub called : Call → List Value → List Value
+called (edit_call edit (Some follow)) inputs = or_unchanged (edited edit inputs) inputs
+called (edit_call edit None) inputs = inputs
+called (filter_call f answer) inputs = inputs
 
 -- the inputs after the calls, of which only the accepted edits change them
 abbrev pub present_inputs : List Call → List Value → List Value
 present_inputs [] inputs = inputs
-present_inputs (call ∷ calls) inputs = present_inputs calls (called call.edit call.answer inputs)
+present_inputs (call ∷ calls) inputs = present_inputs calls (called call inputs)
+
+-- the state with the filter after a call
+abbrev pub filtered : Call → State → State
+filtered (edit_call edit answer) s = s
+filtered (filter_call f (Some follow)) s = refiltered f s
+filtered (filter_call f None) s = s
+
+-- the state with the filter after the calls, which is the last one that was taken
+abbrev pub present_filter : List Call → State → State
+present_filter [] s = s
+present_filter (call ∷ calls) s = present_filter calls (filtered call s)
+
+-- ---- a client
+
+-- the answers to a call
+abbrev pub answers_to : Call → List Follow
+answers_to (edit_call edit (Some follow)) = follow ∷ []
+answers_to (edit_call edit None) = []
+answers_to (filter_call f (Some follow)) = follow ∷ []
+answers_to (filter_call f None) = []
 
 -- the bytes of a client that applies one splice of each answer
-abbrev pub followed_once : (Follow → Splice) → Option Follow → List ℕ → List ℕ
-followed_once part (Some follow) bytes = spliced (part follow) bytes
-followed_once part None bytes = bytes
+abbrev pub followed_all : (Follow → Splice) → List Follow → List ℕ → List ℕ
+followed_all part [] bytes = bytes
+followed_all part (follow ∷ follows) bytes = followed_all part follows (spliced (part follow) bytes)
 
 abbrev pub followed : (Follow → Splice) → List Call → List ℕ → List ℕ
 followed part [] bytes = bytes
-followed part (call ∷ calls) bytes = followed part calls (followed_once part call.answer bytes)
+followed part (call ∷ calls) bytes = followed part calls (followed_all part (answers_to call) bytes)
 
--- An edit may start the filter no more often than this.
-abbrev pub Bounds : Edit → State → ℕ → Type 0
-Bounds edit s n = (a b : ℕ) → IsStarted edit s a b → Rises a b n
+-- ---- a bound
+
+-- A call may start a filter no more often than this.
+abbrev pub Bounds : Call → State → ℕ → Type 0
+Bounds call s n = (a b : ℕ) → MayStart call s a b → Rises a b n
 
 -- a sum of such numbers, one for each of these calls
 abbrev pub IsBound : List Call → State → ℕ → Type 0
 IsBound [] s n = n ≡ 0
-IsBound (call ∷ calls) s n = (m : ℕ) × (k : ℕ) × Bounds call.edit s m × IsBound calls (over s (called call.edit call.answer s.inputs)) k × (n ≡ m + k)
+IsBound (call ∷ calls) s n = (m : ℕ) × (k : ℕ) × Bounds call s m × IsBound calls (over (filtered call s) (called call s.inputs)) k × (n ≡ m + k)
 
 -- ---- laws
 
--- The session's state is its first state with the present inputs.
+-- The session's state is that of the present filter with the present inputs.
 abbrev pub StandsForPresentInputs : Type 0
-StandsForPresentInputs = (calls : List Call) (first last : Point) → IsHistory calls first last → last.state ≡ over first.state (present_inputs calls first.state.inputs)
+StandsForPresentInputs = (calls : List Call) (first last : Point) → IsHistory calls first last
+    → last.state ≡ over (present_filter calls first.state) (present_inputs calls first.state.inputs)
 
--- Its output, errors and status are those of runs from scratch on the present inputs.
+-- Its output, errors and status are those of runs of the present filter from scratch on the present inputs.
 abbrev pub IsAlwaysRight : Type 0
 IsAlwaysRight = (calls : List Call) (first last : Point) → IsHistory calls first last
-    → outcome last.state ≡ values_outcome first.state.mode first.state.job (present_inputs calls first.state.inputs)
+    → outcome last.state ≡ values_outcome (present_filter calls first.state).mode (present_filter calls first.state).job (present_inputs calls first.state.inputs)
 
--- Calls start the filter no more often than their edits may together.
+-- Calls start the filters no more often than they may together.
 abbrev pub StartsNoMore : Type 0
 StartsNoMore = (calls : List Call) (first last : Point) (n : ℕ) → IsBound calls first.state n → IsHistory calls first last → Rises first.starts last.starts n
 
