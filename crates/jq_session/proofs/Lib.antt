@@ -5,6 +5,7 @@ pub mod Edited
 pub mod OnPages
 pub mod Apart
 pub mod Folding
+pub mod UpToHalt
 pub mod Starting
 pub mod Planning
 pub mod Passing

@@ -25,7 +25,7 @@ use Rattle.jq_stream.specs.declared.filters.Filter.{Filter}
 use Rattle.jq_session.specs.Sessions.{IsRefusal}
 use Rattle.jq_session.specs.Splices.{Follows, IsPut, PutsPieces}
 use Rattle.jq_session.specs.Starts.{AllowedStarts, IsFirstRun, IsStarted}
-use Rattle.jq_session.specs.States.{Plan, State, after, each, filter_plan, fold, outcome, state_in, whole, with_inputs}
+use Rattle.jq_session.specs.States.{Plan, State, after, each, filter_plan, fold, outcome, state_in, until_halt, whole, with_inputs}
 use Rattle.jq_session.specs.private.Kept.{Serves}
 use Rattle.jq_session.specs.private.Refusals.{refusal_in}
 use Rattle.jq_session.specs.declared.splices.Follow.{Follow}
@@ -65,6 +65,7 @@ refused_paged f edit x refusal h = refused_by (state_in f x.inputs) x refusal (e
 allowed : (p : Plan) (edit : Edit) (s t : State) (a b : ℕ) → ∥ AllowedStarts p edit s t a b ∥₁ → AllowedStarts p edit s t a b
 allowed each edit s t a b k = record { low = ∥∥₁_elim k (hlevel props) (λ r. r.low); high = ∥∥₁_elim k (hlevel props) (λ r. r.high) }
 allowed (fold f) edit s t a b k = λ m h. record { low = ∥∥₁_elim k (hlevel props) (λ r. (r m h).low); high = ∥∥₁_elim k (hlevel props) (λ r. (r m h).high) }
+allowed until_halt edit s t a b k = λ m h. record { low = ∥∥₁_elim k (hlevel props) (λ r. (r m h).low); high = ∥∥₁_elim k (hlevel props) (λ r. (r m h).high) }
 allowed whole edit s t a b k = record { low = ∥∥₁_elim k (hlevel props) (λ r. r.low); high = ∥∥₁_elim k (hlevel props) (λ r. r.high) }
 
 started_by : {S : Type 0} (f : Filter) (edit : Edit) (x : Folded S) (r : Result (List Value) Reason) (a b : ℕ) → ∥ Serves f x.fold ∥₁
@@ -112,6 +113,7 @@ splice_of s t a b c d e f g h = subst (λ z. IsSplice s c z) g (subst (λ z. IsS
 put_in : (p : Plan) (edit : Edit) (w : Follow) (s t : State) → ∥ IsPut p edit w s t ∥₁ → IsPut p edit w s t
 put_in each edit w s t k = record { out = ∥∥₁_elim k (hlevel props) (λ r. r.out); err = ∥∥₁_elim k (hlevel props) (λ r. r.err) }
 put_in (fold f) edit w s t k = ∥∥₁_elim k ∥∥₁_prop (λ r. r)
+put_in until_halt edit w s t k = ∥∥₁_elim k ∥∥₁_prop (λ r. r)
 put_in whole edit w s t k = record { out = ∥∥₁_elim k (hlevel props) (λ r. r.out); err = ∥∥₁_elim k (hlevel props) (λ r. r.err) }
 
 pub follows_paged : {S : Type 0} (f : Filter) (edit : Edit) (x y : Folded S) (e : Edited) (w : Follow) → ∥ Serves f x.fold ∥₁

@@ -1,3 +1,4 @@
+pub mod Halting
 pub mod States
 pub mod Starts
 pub mod Splices

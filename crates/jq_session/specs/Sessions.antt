@@ -29,6 +29,7 @@ whole_state s = record { mode = filter_mode s.filter; job = filter_job s.filter;
 abbrev pub state_kept : Kept → State
 state_kept (kept.Each s) = paged_state s
 state_kept (kept.Fold s) = paged_state s
+state_kept (kept.UntilHalt s) = paged_state s
 state_kept (kept.Whole s) = whole_state s
 
 abbrev pub state_of : Session → State
@@ -37,6 +38,7 @@ state_of s = state_kept s.kept
 abbrev pub starts_kept : Kept → ℕ
 starts_kept (kept.Each s) = paged_starts s
 starts_kept (kept.Fold s) = paged_starts s
+starts_kept (kept.UntilHalt s) = paged_starts s
 starts_kept (kept.Whole s) = starts_in s.starts
 
 -- the count of its starts, which goes on from the one that it was started with

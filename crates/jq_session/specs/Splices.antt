@@ -11,7 +11,8 @@ use Rattle.jq_pages.specs.Splices.{IsSplice, came}
 use Rattle.jq_pages.specs.declared.changes.Change.{Change}
 use Rattle.jq_pages.specs.declared.splices.Splice.{Splice}
 use Rattle.jq_stream.specs.Outcomes.{Job, printed_of, ending_report}
-use Rattle.jq_session.specs.States.{Plan, each, fold, whole, State, outcome}
+use Rattle.jq_session.specs.Halting.{halting_fold}
+use Rattle.jq_session.specs.States.{Plan, each, fold, until_halt, whole, State, outcome}
 use Rattle.jq_session.specs.declared.splices.Follow.{Follow}
 
 -- what the run on the value that an edit puts in writes, by what a run writes; a removal puts nothing in
@@ -36,11 +37,12 @@ pub record PutsChange {S : Type 0} (f : Follow) (edit : Edit) (old new : Folded 
   pub is_change : IsChange change edit old new
   pub pieces : PutsPieces f (came change new)
 
--- On each input by itself the splices put in what the run on the edited input writes, in a fold the pieces of such a change, and
--- else all that the runs from scratch write.
+-- On each input by itself the splices put in what the run on the edited input writes, in a fold the pieces of such a change (so too
+-- where a run may halt), and else all that the run from scratch writes.
 abbrev pub IsPut : Plan → Edit → Follow → (old new : State) → Type 0
 IsPut each edit f old new = Puts f (written_for (printed_of new.job.style) new.job edit) (written_for (λ r. ending_report r.ending) new.job edit)
 IsPut (fold x) edit f old new = ∥ PutsChange f edit (folded_in x old.inputs) (folded_in x new.inputs) ∥₁
+IsPut until_halt edit f old new = ∥ PutsChange f edit (folded_in (halting_fold old.job) old.inputs) (folded_in (halting_fold old.job) new.inputs) ∥₁
 IsPut whole edit f old new = Puts f (outcome new).output (outcome new).errors
 
 -- The answer to an edit that changed one state into another.

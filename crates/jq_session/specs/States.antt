@@ -20,13 +20,14 @@ use Rattle.jq_tree.specs.Tree.{Tree}
 pub data Plan : Type 0 where
   each : Plan  -- an edit runs the edited input alone
   fold : Fold FoldState → Plan  -- an edit runs this fold from its page on, up to a page after which the state is unchanged
+  until_halt : Plan  -- the same for the fold of the runs on each input up to the first that halts
   whole : Plan  -- an edit makes all runs again
 
--- The runs on each input do not depend on each other if none of them halts. The one run on null of a filter that folds its inputs
--- is run input by input. Else an edit makes all runs again: one over all inputs, or those on each input up to the first that halts.
+-- The runs on each input do not depend on each other if none of them halts. If one may halt, and in the one run on null of a filter
+-- that folds its inputs, they are run one after the other, each from the state before it. Else an edit makes the one run again.
 abbrev pub plan_in : Mode → filter.Plan → (halts : Bool) → Fold FoldState → Plan
 plan_in on_each p false f = each
-plan_in on_each p true f = whole
+plan_in on_each p true f = until_halt
 plan_in (on_null true) filter.per_input halts f = whole
 plan_in (on_null true) filter.fold halts f = fold f
 plan_in (on_null true) filter.once halts f = whole
@@ -41,12 +42,15 @@ filter_plan f = plan_in (filter_mode f) (view_of f.plan) f.halts (filter_fold f)
 abbrev pub IsPlanOf : Chosen → Mode → (prelude t : Tree) → Plan → Type 0
 IsPlanOf o on_each p t each = CallsNoHalt t
 IsPlanOf o on_each p t (fold f) = ⊥
-IsPlanOf o on_each p t whole = ¬ CallsNoHalt t
+IsPlanOf o on_each p t until_halt = ¬ CallsNoHalt t
+IsPlanOf o on_each p t whole = ⊥
 IsPlanOf o (on_null reads) p t each = ⊥
 IsPlanOf o (on_null reads) p t (fold f) = FoldShape [] t × (f ≡ compiled_fold o p t)
+IsPlanOf o (on_null reads) p t until_halt = ⊥
 IsPlanOf o (on_null reads) p t whole = ¬ FoldShape [] t
 IsPlanOf o on_all p t each = ⊥
 IsPlanOf o on_all p t (fold f) = ⊥
+IsPlanOf o on_all p t until_halt = ⊥
 IsPlanOf o on_all p t whole = Unit {0}
 
 pub record State : Type 0 where

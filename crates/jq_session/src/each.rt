@@ -1,9 +1,12 @@
 // A filter on each input by itself, none of whose runs halts.
-ghost use Rattle.std.specs.Prelude.{◌≡◌};
+ghost use Rattle.std.specs.Prelude.{◌≡◌, IfOk};
+ghost use Rattle.jv_data.specs.View.{view};
+ghost use Rattle.jq_meaning.specs.Runs.{none};
+ghost use Rattle.jq_pages.specs.Folds.{Rises};
 ghost use Rattle.jq_pages.specs.Pieces.{piece_view};
 ghost use Rattle.jq_starts.specs.Starts.{starts_in};
 ghost use Rattle.jq_stream.specs.Filters.{filter_job};
-ghost use Rattle.jq_stream.specs.Pieces.{each_fold, no_piece};
+ghost use Rattle.jq_stream.specs.Pieces.{each_fold, no_piece, piece_of};
 
 use jq_pages::{Last, Piece, Steps};
 use jq_starts::Starts;
@@ -44,10 +47,7 @@ impl Steps for EachInput {
     }
 
     fn step(&mut self, _state: &(), input: &Val) -> Result<(Piece, ()), NoMemory> {
-        let value = input.copy()?;
-        let style = self.filter.settings().style;
-        let runner = self.filter.runner();
-        let piece = run_piece(self.alloc, &runner, style, &mut self.starts, value)?;
+        let piece = run_input(self.alloc, &self.filter, &mut self.starts, input)?;
         Ok((piece, ()))
     }
 
@@ -64,8 +64,26 @@ impl Steps for EachInput {
     }
 }
 
+/// What the run of a filter on an input writes.
+pub(crate) fn run_input(
+    alloc: Global,
+    filter: &Filter,
+    starts: &mut Starts,
+    input: &Val,
+) -> Result<Piece, NoMemory>
+    ensures piece { IfOk result (λ p. piece_view p ≡ piece_of (filter_job filter.now).style ((filter_job filter.now).run none (view input.now))) }
+    ensures rises { Rises (starts_in starts.old) (starts_in starts.new) 1 }
+{
+    let value = input.copy()?;
+    let style = filter.settings().style;
+    let runner = filter.runner();
+    let piece = run_piece(alloc, &runner, style, starts, value)?;
+    Ok(piece)
+}
+
+/// The piece of a step that writes nothing.
 #[tactic(auto, unfolding(jq_pages::specs::Pieces::piece_view))]
-fn no_piece(alloc: Global) -> Piece
+pub(crate) fn no_piece(alloc: Global) -> Piece
     ensures { piece_view result ≡ no_piece }
 {
     Piece {

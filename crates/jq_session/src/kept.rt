@@ -9,9 +9,10 @@ ghost use Rattle.jq_session.specs.States.{outcome, state_in};
 
 use crate::each::EachInput;
 use crate::paged::PagedSession;
-use crate::paging::{start_each, start_fold};
+use crate::paging::{start_each, start_fold, start_until_halt};
 use crate::plans::{Following, plan_for};
 use crate::refusals::NotStarted;
+use crate::until_halt::UntilHalt;
 use crate::whole::WholeSession;
 use jq_fold_steps::FoldSteps;
 use jq_starts::Starts;
@@ -24,6 +25,7 @@ use std::alloc::Global;
 pub(crate) enum Kept {
     Each(PagedSession<EachInput>),
     Fold(PagedSession<FoldSteps>),
+    UntilHalt(PagedSession<UntilHalt>),
     Whole(WholeSession),
 }
 
@@ -44,6 +46,9 @@ impl Kept {
         Ok(match plan_for(&filter) {
             Following::Each => Kept::Each(start_each(alloc, starts, filter, inputs)?),
             Following::Fold => Kept::Fold(start_fold(alloc, starts, filter, inputs)?),
+            Following::UntilHalt => {
+                Kept::UntilHalt(start_until_halt(alloc, starts, filter, inputs)?)
+            }
             Following::Whole => Kept::Whole(WholeSession::start(alloc, starts, filter, inputs)?),
         })
     }
@@ -56,6 +61,7 @@ impl Kept {
         match self {
             Kept::Each(session) => session.inputs(alloc),
             Kept::Fold(session) => session.inputs(alloc),
+            Kept::UntilHalt(session) => session.inputs(alloc),
             Kept::Whole(session) => session.inputs(),
         }
     }
@@ -68,6 +74,7 @@ impl Kept {
         match self {
             Kept::Each(session) => session.written(alloc),
             Kept::Fold(session) => session.written(alloc),
+            Kept::UntilHalt(session) => session.written(alloc),
             Kept::Whole(session) => session.written(),
         }
     }
@@ -78,6 +85,7 @@ impl Kept {
         match self {
             Kept::Each(session) => session.status(),
             Kept::Fold(session) => session.status(),
+            Kept::UntilHalt(session) => session.status(),
             Kept::Whole(session) => session.status(),
         }
     }
@@ -89,6 +97,7 @@ impl Kept {
         match self {
             Kept::Each(session) => session.starts(),
             Kept::Fold(session) => session.starts(),
+            Kept::UntilHalt(session) => session.starts(),
             Kept::Whole(session) => session.starts(),
         }
     }
@@ -100,6 +109,7 @@ impl Kept {
         match self {
             Kept::Each(session) => session.into_steps().starts,
             Kept::Fold(session) => session.into_steps().into_starts(),
+            Kept::UntilHalt(session) => session.into_steps().starts,
             Kept::Whole(session) => session.into_starts(),
         }
     }

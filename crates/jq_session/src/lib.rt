@@ -1,9 +1,10 @@
 //! A session: a filter over a list of inputs that is edited. After each edit the output, the errors and the status are those
 //! of runs from scratch on the present inputs.
 //!
-//! What the filter writes is kept input by input (`paged`) if it runs on each input and calls no function that halts, or if it folds
-//! its inputs. In the first case an edit runs the edited input alone (`each`), in the second the steps of the fold up to a page after
-//! which the state is unchanged (`FoldSteps`). Else an edit makes all runs again (`whole`).
+//! What the filter writes is kept input by input (`paged`) if it runs on each input, or if it folds its inputs. If it runs on each
+//! input and calls no function that halts, an edit runs the edited input alone (`each`). Else it runs the steps up to a page after
+//! which the state is unchanged: the state of the fold (`FoldSteps`), or whether a run halted (`until_halt`). A filter that runs once
+//! and is no fold is run again (`whole`).
 //!
 //! Entry: `Session`. Tests: `tests/session.toml`, `tests/random_scripts.py`, `jq_tests`.
 #![tactic(auto)]
@@ -19,6 +20,7 @@ mod refusals;
 mod sessions;
 mod splices;
 mod statuses;
+mod until_halt;
 mod whole;
 mod writing;
 

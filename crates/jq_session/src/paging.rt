@@ -14,6 +14,7 @@ ghost use Rattle.jq_session.specs.States.{state_in};
 use crate::each::EachInput;
 use crate::paged::PagedSession;
 use crate::refusals::{NotStarted, Refusal, refusal_of};
+use crate::until_halt::UntilHalt;
 use jq_fold_steps::FoldSteps;
 use jq_fold_steps::laws::a_compiled_fold_writes_what_its_run_writes;
 use jq_starts::Starts;
@@ -52,6 +53,43 @@ pub(crate) fn start_each(
     match share(alloc, filter) {
         Ok((filter, shared)) => {
             let steps = EachInput {
+                alloc,
+                filter: shared,
+                starts,
+            };
+            match PagedSession::start(alloc, filter, steps, inputs) {
+                Ok(session) => Ok(session),
+                Err(refused) => Err(NotStarted {
+                    starts: refused.steps.starts,
+                    refusal: refusal_of(refused.refusal),
+                }),
+            }
+        }
+        Err(_) => Err(NotStarted {
+            starts,
+            refusal: Refusal::NoMemory,
+        }),
+    }
+}
+
+/// Starts a session whose edits run the steps up to the first input whose run halts, and runs the filter on these inputs up to it.
+pub(crate) fn start_until_halt(
+    alloc: Global,
+    starts: Starts,
+    filter: Filter,
+    inputs: Vec<Val>,
+) -> Result<PagedSession<UntilHalt>, NotStarted>
+    requires mode { filter_mode filter ≡ on_each }
+    requires halts { filter.halts ≡ true }
+    requires room { length inputs.items ≤ most_inputs }
+    ensures state { IfOk result (λ s. paged_state s ≡ state_in filter (map view inputs.items)) }
+    ensures refused { IfErr result (λ n. IsStartRefusal n.refusal (length inputs.items)) }
+    ensures started { IfOk result (λ s. IsFirstRun (state_in filter (map view inputs.items)) (starts_in starts) (paged_starts s)) }
+    ensures at_most { IfErr result (λ n. IsFirstRun (state_in filter (map view inputs.items)) (starts_in starts) (starts_in n.starts)) }
+{
+    match share(alloc, filter) {
+        Ok((filter, shared)) => {
+            let steps = UntilHalt {
                 alloc,
                 filter: shared,
                 starts,

@@ -11,7 +11,9 @@ pub(crate) enum Following {
     Each,
     /// It runs the steps of the filter's fold, up to a page after which the state is unchanged.
     Fold,
-    /// It makes all runs again.
+    /// It runs the steps up to the first input whose run halts, from a state on that says whether one halted.
+    UntilHalt,
+    /// It makes the one run again.
     Whole,
 }
 
@@ -22,7 +24,7 @@ pub(crate) fn plan_for(filter: &Filter) -> Following
     match filter.settings().mode {
         Mode::OnEach => {
             if filter.halts() {
-                Following::Whole
+                Following::UntilHalt
             } else {
                 Following::Each
             }

@@ -79,6 +79,7 @@ impl Session {
         match &mut self.kept {
             Kept::Each(session) => session.insert(k, value),
             Kept::Fold(session) => session.insert(k, value),
+            Kept::UntilHalt(session) => session.insert(k, value),
             Kept::Whole(session) => session.insert(k, value),
         }
     }
@@ -96,6 +97,7 @@ impl Session {
         match &mut self.kept {
             Kept::Each(session) => session.replace(k, value),
             Kept::Fold(session) => session.replace(k, value),
+            Kept::UntilHalt(session) => session.replace(k, value),
             Kept::Whole(session) => session.replace(k, value),
         }
     }
@@ -113,6 +115,7 @@ impl Session {
         match &mut self.kept {
             Kept::Each(session) => session.remove(k),
             Kept::Fold(session) => session.remove(k),
+            Kept::UntilHalt(session) => session.remove(k),
             Kept::Whole(session) => session.remove(k),
         }
     }
@@ -193,6 +196,7 @@ impl Session {
         match &self.kept {
             Kept::Each(session) => session.write_out(writer),
             Kept::Fold(session) => session.write_out(writer),
+            Kept::UntilHalt(session) => session.write_out(writer),
             Kept::Whole(session) => session.write_out(writer),
         }
     }
@@ -208,6 +212,7 @@ impl Session {
         match &self.kept {
             Kept::Each(session) => session.write_err(writer),
             Kept::Fold(session) => session.write_err(writer),
+            Kept::UntilHalt(session) => session.write_err(writer),
             Kept::Whole(session) => session.write_err(writer),
         }
     }
@@ -248,6 +253,7 @@ impl Session {
         match &self.kept {
             Kept::Each(session) => session.len(),
             Kept::Fold(session) => session.len(),
+            Kept::UntilHalt(session) => session.len(),
             Kept::Whole(session) => session.len(),
         }
     }
@@ -259,6 +265,7 @@ impl Session {
         match &self.kept {
             Kept::Each(session) => session.out_len(),
             Kept::Fold(session) => session.out_len(),
+            Kept::UntilHalt(session) => session.out_len(),
             Kept::Whole(session) => session.out_len(),
         }
     }
@@ -270,6 +277,7 @@ impl Session {
         match &self.kept {
             Kept::Each(session) => session.err_len(),
             Kept::Fold(session) => session.err_len(),
+            Kept::UntilHalt(session) => session.err_len(),
             Kept::Whole(session) => session.err_len(),
         }
     }

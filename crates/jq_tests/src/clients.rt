@@ -1,8 +1,11 @@
 // A client that only applies the splices of a session.
+use crate::starting::started;
 use jq_devices::Watched;
 use jq_session::{Follow, Session, Splice};
+use jv_data::Val;
 use std::alloc::Global;
 use std::process::Abort;
+use std::rt::HostRuntime;
 use std::test::Fail;
 
 /// What a client knows of a session.
@@ -45,6 +48,27 @@ impl Client {
         assert_eq!(rt; self.err.as_slice(), err.as_bytes(), "{named}");
         assert_eq!(rt; self.status, status, "{named}");
     }
+
+    /// The client has the same output, errors and status as another.
+    pub(crate) fn check_same(&self, rt: &(impl Abort + AllocGlobal), named: &str, other: &Client) {
+        assert_eq!(rt; self.out.as_slice(), other.out.as_slice(), "{named}");
+        assert_eq!(rt; self.err.as_slice(), other.err.as_slice(), "{named}");
+        assert_eq!(rt; self.status, other.status, "{named}");
+    }
+}
+
+/// What a client has of a session that is started over these numbers.
+pub(crate) fn fresh(
+    rt: &HostRuntime,
+    (flag, filter): (&str, &str),
+    numbers: &[i64],
+) -> Result<Client, Fail> {
+    let alloc = rt.alloc();
+    let mut values = Vec::new(alloc);
+    for number in numbers {
+        values.push(Val::Num(*number))?;
+    }
+    Client::new(alloc, &started(rt, flag, filter, values)?)
 }
 
 fn spliced(alloc: Global, bytes: &[u8], splice: &Splice) -> Result<Vec<u8>, Fail> {

@@ -21,11 +21,17 @@ mod files;
 #[cfg(test)]
 mod folds;
 #[cfg(test)]
+mod halts;
+#[cfg(test)]
 mod memory;
 #[cfg(test)]
 mod pieces;
 #[cfg(test)]
 mod programs;
+#[cfg(test)]
+mod refilters;
+#[cfg(test)]
+mod session_memory;
 #[cfg(test)]
 mod starting;
 #[cfg(test)]

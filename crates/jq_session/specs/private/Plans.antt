@@ -12,4 +12,5 @@ use Rattle.jq_session.specs.declared.plans.Following.TheVariants as following
 abbrev pub IsFollowing : Following → Filter → Type 0
 IsFollowing following.Each f = (filter_mode f ≡ on_each) × (f.halts ≡ false)
 IsFollowing following.Fold f = (filter_mode f ≡ on_null true) × (view_of f.plan ≡ filter.fold)
+IsFollowing following.UntilHalt f = (filter_mode f ≡ on_each) × (f.halts ≡ true)
 IsFollowing following.Whole f = filter_plan f ≡ whole

@@ -17,6 +17,12 @@ returns-in-Fold-clause-err g c =
     let s = g.W.Write.contents (device_of c.write_out-in-Fold.new.writer) in
     subst (λ k. OnErr c.write_out-in-Fold.result (AppendsFirst r s (outcome (state_kept k)).output)) (sym c.in-Fold.is) c.write_out-in-Fold.ensures.err
 
+pub returns-in-UntilHalt-clause-err : goal.returns-in-UntilHalt-clause-err
+returns-in-UntilHalt-clause-err g c =
+    let r = g.W.Write.contents (device_of c.args.writer.now) in
+    let s = g.W.Write.contents (device_of c.write_out-in-UntilHalt.new.writer) in
+    subst (λ k. OnErr c.write_out-in-UntilHalt.result (AppendsFirst r s (outcome (state_kept k)).output)) (sym c.in-UntilHalt.is) c.write_out-in-UntilHalt.ensures.err
+
 pub returns-in-Whole-clause-err : goal.returns-in-Whole-clause-err
 returns-in-Whole-clause-err g c =
     let r = g.W.Write.contents (device_of c.args.writer.now) in

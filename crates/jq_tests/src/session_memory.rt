@@ -1,0 +1,103 @@
+// Other filters that are refused memory, and are taken again (tests/growth.py refuses each allocation in turn).
+use crate::memory::{check_session, mark};
+use crate::starting::{compile_under, numbers, started};
+use jq_session::{Refusal, Session};
+use jq_starts::Starts;
+use jq_stream::Filter;
+use std::process::Abort;
+use std::test::Fail;
+
+// A session's output, errors and status.
+type State = (&'static str, &'static str, u8);
+
+const QUOTIENT: &str = "jq: error: quotient is not whole\n";
+
+// The session takes another filter. If it finds no memory, the session and its count are as they were, and the filter, compiled a
+// second time, is taken with the count that came back.
+fn check_filter(
+    rt: &impl Abort,
+    session: &mut Session,
+    starts: Starts,
+    (compiled, again): (Filter, Filter),
+    (before, after): (State, State),
+) -> Result<(), Fail> {
+    let count = session.starts();
+    let taken = match session.refilter(starts, compiled) {
+        Err(refused) => {
+            assert_eq!(rt; refused.refusal, Refusal::NoMemory);
+            assert_eq!(rt; session.starts(), count);
+            check_session(rt, session, before)?;
+            session.refilter(refused.starts, again)
+        }
+        answer => answer,
+    };
+    match taken {
+        Ok((follow, old)) => {
+            assert_eq!(rt; (follow.status, old.count()), (after.2, count));
+            check_session(rt, session, after)
+        }
+        Err(refused) => Err(Fail::from(refused.refusal)),
+    }
+}
+
+const FOLD: &str = "reduce inputs as $x ([]; . + [$x]) | ., add";
+
+const QUOTIENTS: State = ("6\n3\n2\n", QUOTIENT, 5);
+
+const SUMS: State = ("[1,2,3,4]\n10\n", "", 0);
+
+#[test]
+fn from_each_input_to_a_fold(rt: HostRuntime) -> Result<(), Fail> {
+    let alloc = rt.alloc();
+    let mut session = started(&rt, "", "6 / .", numbers(alloc, 4)?)?;
+    let filters = (
+        compile_under(alloc, "-n", FOLD)?,
+        compile_under(alloc, "-n", FOLD)?,
+    );
+    let mark = mark(alloc)?;
+    check_filter(
+        &rt,
+        &mut session,
+        Starts::new(&rt),
+        filters,
+        (QUOTIENTS, SUMS),
+    )?;
+    assert!(rt; mark.is_empty());
+    Ok(())
+}
+
+#[test]
+fn from_a_fold_to_each_input(rt: HostRuntime) -> Result<(), Fail> {
+    let alloc = rt.alloc();
+    let mut session = started(&rt, "-n", FOLD, numbers(alloc, 4)?)?;
+    let filters = (
+        compile_under(alloc, "", "6 / .")?,
+        compile_under(alloc, "", "6 / .")?,
+    );
+    let mark = mark(alloc)?;
+    check_filter(
+        &rt,
+        &mut session,
+        Starts::new(&rt),
+        filters,
+        (SUMS, QUOTIENTS),
+    )?;
+    assert!(rt; mark.is_empty());
+    Ok(())
+}
+
+#[test]
+fn from_all_inputs_to_a_halt(rt: HostRuntime) -> Result<(), Fail> {
+    let alloc = rt.alloc();
+    let halts = "if . == 3 then halt else . end";
+    let mut session = started(&rt, "-s", "add", numbers(alloc, 4)?)?;
+    let filters = (
+        compile_under(alloc, "", halts)?,
+        compile_under(alloc, "", halts)?,
+    );
+    let states = (("10\n", "", 0), ("1\n2\n", "", 0));
+    let mark = mark(alloc)?;
+    check_filter(&rt, &mut session, Starts::new(&rt), filters, states)?;
+    assert!(rt; mark.is_empty());
+    Ok(())
+}
