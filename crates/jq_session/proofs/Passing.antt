@@ -141,7 +141,3 @@ outputs_are (p ∷ ps) = ap (λ l. p.out ++ l) (outputs_are ps)
 pub errors_are : (ps : List PieceView) → flat_map (part_in part.Errors) ps ≡ flat_map (λ p. p.err) ps
 errors_are [] = refl
 errors_are (p ∷ ps) = ap (λ l. p.err ++ l) (errors_are ps)
-
--- the bytes that were written to an empty vector
-pub all_written : (items bytes : List ℕ) → Appends (Some []) (Some items) bytes → items ≡ bytes
-all_written items bytes h = h

@@ -143,7 +143,7 @@ nothing_more : {A : Type 0} (o : Option ℕ) → unless_halted {A = A} o [] ≡ 
 nothing_more None = refl
 nothing_more (Some status) = refl
 
-writes : (job : Job) (vs : List Value) → IsOutcome job.exit (folded_in (halting_fold job) vs) (values_outcome on_each job vs)
+pub writes : (job : Job) (vs : List Value) → IsOutcome job.exit (folded_in (halting_fold job) vs) (values_outcome on_each job vs)
 writes job vs =
     let t = totals (ended job false vs) in
     let rs = made job vs in

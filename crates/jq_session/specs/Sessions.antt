@@ -41,7 +41,7 @@ starts_kept (kept.Fold s) = paged_starts s
 starts_kept (kept.UntilHalt s) = paged_starts s
 starts_kept (kept.Whole s) = starts_in s.starts
 
--- the count of its starts, which goes on from the one that it was started with
+-- the count of starts, which goes on from the one that came with its filter
 abbrev pub starts_of : Session → ℕ
 starts_of s = starts_kept s.kept
 

@@ -37,8 +37,8 @@ pub record PutsChange {S : Type 0} (f : Follow) (edit : Edit) (old new : Folded 
   pub is_change : IsChange change edit old new
   pub pieces : PutsPieces f (came change new)
 
--- On each input by itself the splices put in what the run on the edited input writes, in a fold the pieces of such a change (so too
--- where a run may halt), and else all that the run from scratch writes.
+-- On each input by itself the splices put in what the run on the edited input writes. In a fold, and on each input up to the first one
+-- whose run halts, they put in the pieces of such a change. Else they put in all that the run from scratch writes.
 abbrev pub IsPut : Plan → Edit → Follow → (old new : State) → Type 0
 IsPut each edit f old new = Puts f (written_for (printed_of new.job.style) new.job edit) (written_for (λ r. ending_report r.ending) new.job edit)
 IsPut (fold x) edit f old new = ∥ PutsChange f edit (folded_in x old.inputs) (folded_in x new.inputs) ∥₁

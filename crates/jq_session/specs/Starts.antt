@@ -15,8 +15,8 @@ abbrev pub GoesOnFrom : {S : Type 0} → Fold S → Edit → (old new : List Val
 GoesOnFrom f edit old new m = IsMeeting edit (folded_in f old) (folded_in f new) m
 
 -- An edit that leads from one state to another may start the filter so often. On each input by itself: once for an inserted or
--- replaced input, and never for a removal. In a fold: once for each input from the edit to where the fold goes on as it did, and 129
--- times more, and so on each input up to the first one whose run halts. Else: as often as a run from scratch, which is once.
+-- replaced input, and never for a removal. In a fold, and on each input up to the first one whose run halts: once for each input from
+-- the edit to where the fold goes on as it did, and 129 times more. Else: as often as the run from scratch, which is once.
 abbrev pub AllowedStarts : Plan → Edit → (old new : State) → (old_starts new_starts : ℕ) → Type 0
 AllowedStarts each edit old new a b = Rises a b (added edit)
 AllowedStarts (fold f) edit old new a b = (m : ℕ) → GoesOnFrom f edit old.inputs new.inputs m → Rises a b ((m - place edit) + 129)
@@ -27,13 +27,14 @@ AllowedStarts whole edit old new a b = Rises a b (run_count new.mode new.job new
 abbrev pub IsStarted : Edit → (old : State) → (old_starts new_starts : ℕ) → Type 0
 IsStarted edit old a b = MatchResult (after edit old) (λ new. AllowedStarts old.plan edit old new a b) (λ reason. b ≡ a)
 
--- how often runs from scratch start the filter; a fold that is kept input by input: once for each input, for its start and at its end
+-- how often the first runs may start the filter: as often as runs from scratch; in a fold, and on each input up to the first one whose
+-- run halts, once for each input and twice more
 abbrev pub first_starts : Plan → State → ℕ
 first_starts each first = run_count first.mode first.job first.inputs
 first_starts (fold f) first = length first.inputs + 2
 first_starts until_halt first = length first.inputs + 2
 first_starts whole first = run_count first.mode first.job first.inputs
 
--- The start of a session may start the filter so often, and so may a session start another filter that it takes.
+-- The start of a session may start its filter so often, and so may a session start another filter that it takes.
 abbrev pub IsFirstRun : State → (old_starts new_starts : ℕ) → Type 0
 IsFirstRun first a b = Rises a b (first_starts first.plan first)

@@ -21,10 +21,11 @@ pub data Plan : Type 0 where
   each : Plan  -- an edit runs the edited input alone
   fold : Fold FoldState → Plan  -- an edit runs this fold from its page on, up to a page after which the state is unchanged
   until_halt : Plan  -- the same for the fold of the runs on each input up to the first that halts
-  whole : Plan  -- an edit makes all runs again
+  whole : Plan  -- an edit makes the one run again
 
--- The runs on each input do not depend on each other if none of them halts. If one may halt, and in the one run on null of a filter
--- that folds its inputs, they are run one after the other, each from the state before it. Else an edit makes the one run again.
+-- The runs on each input do not depend on each other if none of them halts. If one may halt, they are made one after the other, each
+-- from the state before it, and so are the steps of a filter that folds its inputs in one run on null. Else an edit makes the one run
+-- again.
 abbrev pub plan_in : Mode → filter.Plan → (halts : Bool) → Fold FoldState → Plan
 plan_in on_each p false f = each
 plan_in on_each p true f = until_halt

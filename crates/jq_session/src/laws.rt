@@ -1,4 +1,5 @@
-// Laws of a session after any list of calls, and of its plan.
+// Laws of a session after any list of calls, of its plan, and of runs up to a halt.
+ghost use Rattle.jq_session.specs.laws.Halts.{PiecesUpToAHaltAreTheOutcome};
 ghost use Rattle.jq_session.specs.laws.Histories.{FollowsErrors, FollowsOutput, IsAlwaysRight, StandsForPresentInputs, StartsNoMore};
 ghost use Rattle.jq_session.specs.laws.Plans.{PlansAreByTheTree};
 
@@ -27,3 +28,10 @@ pub fn plans_are_by_the_tree()
 {
     a_compiled_fold_comes_after_the_prelude();
 }
+
+/// The pieces of the runs on each input up to the first one that halts, one after the other, are the output, the errors and the status
+/// of runs from scratch.
+#[tactic(auto, using(crate::proofs::UpToHalt::writes))]
+pub fn pieces_up_to_a_halt_are_the_outcome()
+    ensures { PiecesUpToAHaltAreTheOutcome }
+{}

@@ -224,7 +224,7 @@ impl Session {
         self.kept.status()
     }
 
-    /// How often the filter was started, by the count that the session was started with.
+    /// How often the filter was started, by the count that came with it.
     pub fn starts(&self) -> u64
         ensures { result ≡ starts_of self.now }
     {

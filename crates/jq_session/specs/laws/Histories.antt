@@ -25,7 +25,7 @@ pub record Made (edit : Edit) (follow : Follow) (old new : Point) : Type 0 where
   pub follows : Follows follow edit old.state new.state
   pub runs : new.starts ≡ old.starts + follow.runs
 
--- The same for another filter. Its starts are added to those of the filters before it.
+-- The same for another filter. The session counts its starts with another count; here they are added to those of the filters before it.
 pub record Refiltered (f : Filter) (follow : Follow) (old new : Point) : Type 0 where
   pub taken : new.state ≡ refiltered f old.state
   pub follows : FollowsFilter follow old.state new.state
