@@ -22,7 +22,7 @@ use Rattle.jq_stream.specs.Present.{run_count, values_outcome}
 use Rattle.jq_stream.specs.Unhalted.{NeverHalts}
 use Rattle.jq_stream.specs.declared.filters.Filter.{Filter}
 use Rattle.jq_session.specs.Splices.{IsPut, written_for}
-use Rattle.jq_session.specs.Starts.{AllowedStarts, first_starts}
+use Rattle.jq_session.specs.Starts.{AllowedMove, AllowedStarts, first_starts}
 use Rattle.jq_session.specs.States.{each, filter_plan, plan_in, state_in}
 use Rattle.jq_session.specs.private.Kept.{Serves}
 use Rattle.jq_session.proofs.Inputs.{put_in, put_there}
@@ -95,6 +95,7 @@ serves_each out_law err_law status_law runs_law f mode halts =
           subst (λ p. Rises a b (first_starts p (state_in f vs))) (sym plan)
           (subst (λ m. Rises a b (run_count m job vs)) (sym mode) (subst (Rises a b) (sym (runs_law job vs never)) (h.plain refl)));
       starts = λ edit vs ws a b h. subst (λ p. AllowedStarts p edit (state_in f vs) (state_in f ws) a b) (sym plan) (h.plain refl);
+      moves = λ k l vs ws a b h. subst (λ p. AllowedMove p k l (state_in f vs) (state_in f ws) a b) (sym plan) (h.plain refl);
       puts = λ edit vs ws c w is change puts.
           let came_are = came_all job edit (folded_in (each_fold job) vs) (folded_in (each_fold job) ws) c refl is (change.plain refl) in
           subst (λ p. IsPut p edit w (state_in f vs) (state_in f ws)) (sym plan)

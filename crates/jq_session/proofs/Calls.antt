@@ -5,9 +5,10 @@ use Rattle.jq_stream.specs.Present.{values_outcome}
 use Rattle.jq_stream.specs.declared.filters.Filter.{Filter}
 use Rattle.jq_pages.specs.Edits.{Edit, Reason, edited}
 use Rattle.jq_pages.specs.Folds.{Rises}
+use Rattle.jq_pages.specs.Moves.{moved}
 use Rattle.jq_session.specs.States.{State, Point, over, with_inputs, outcome, refiltered}
 use Rattle.jq_session.specs.declared.splices.Follow.{Follow}
-use Rattle.jq_session.specs.laws.Histories.{Call, edit_call, filter_call, Changes, Leads, IsBound, IsHistory, or_unchanged, called, filtered, present_filter, present_inputs, answers_to, followed, followed_all}
+use Rattle.jq_session.specs.laws.Histories.{Call, edit_call, move_call, filter_call, Changes, Leads, IsBound, IsHistory, or_unchanged, called, filtered, present_filter, present_inputs, answers_to, followed, followed_all}
 
 -- ---- the state
 
@@ -18,6 +19,8 @@ taken old new (Err reason) e = cc
 led : (call : Call) (old new : Point) → Leads call old new → new.state ≡ over (filtered call old.state) (called call old.state.inputs)
 led (edit_call edit (Some follow)) old new h = taken old.state new.state (edited edit old.state.inputs) h.0.edited
 led (edit_call edit None) old new h = h.0
+led (move_call k l (Some answers)) old new h = taken old.state new.state (moved k l old.state.inputs) h.0.moved
+led (move_call k l None) old new h = h.0
 led (filter_call f (Some follow)) old new h = h.0.taken
 led (filter_call f None) old new h = h.0
 
@@ -25,6 +28,7 @@ led (filter_call f None) old new h = h.0
 same_filter : (calls : List Call) (s : State) (vs ws : List Value) → over (present_filter calls (over s vs)) ws ≡ over (present_filter calls s) ws
 same_filter [] s vs ws = refl
 same_filter (edit_call edit answer ∷ calls) s vs ws = same_filter calls s vs ws
+same_filter (move_call k l answers ∷ calls) s vs ws = same_filter calls s vs ws
 same_filter (filter_call f (Some follow) ∷ calls) s vs ws = same_filter calls (refiltered f s) vs ws
 same_filter (filter_call f None ∷ calls) s vs ws = same_filter calls s vs ws
 
@@ -57,6 +61,9 @@ no_more (call ∷ calls) first last n bound h =
 output_followed : (call : Call) (old new : Point) → Changes call old new → followed_all (λ f. f.out) (answers_to call) (outcome old.state).output ≡ (outcome new.state).output
 output_followed (edit_call edit (Some follow)) old new h = h.follows.out.turns
 output_followed (edit_call edit None) old new h = ap (λ s. (outcome s).output) (sym h)
+output_followed (move_call k l (Some answers)) old new h =
+    ap (λ bytes. followed_all (λ f. f.out) (answers.1 ∷ []) bytes) h.follows.removal.out.turns ∙ h.follows.insertion.out.turns
+output_followed (move_call k l None) old new h = ap (λ s. (outcome s).output) (sym h)
 output_followed (filter_call f (Some follow)) old new h = h.follows.out.splice.turns
 output_followed (filter_call f None) old new h = ap (λ s. (outcome s).output) (sym h)
 
@@ -67,6 +74,9 @@ follows_output (call ∷ calls) first last h = ap (followed (λ f. f.out) calls)
 errors_followed : (call : Call) (old new : Point) → Changes call old new → followed_all (λ f. f.err) (answers_to call) (outcome old.state).errors ≡ (outcome new.state).errors
 errors_followed (edit_call edit (Some follow)) old new h = h.follows.err.turns
 errors_followed (edit_call edit None) old new h = ap (λ s. (outcome s).errors) (sym h)
+errors_followed (move_call k l (Some answers)) old new h =
+    ap (λ bytes. followed_all (λ f. f.err) (answers.1 ∷ []) bytes) h.follows.removal.err.turns ∙ h.follows.insertion.err.turns
+errors_followed (move_call k l None) old new h = ap (λ s. (outcome s).errors) (sym h)
 errors_followed (filter_call f (Some follow)) old new h = h.follows.err.splice.turns
 errors_followed (filter_call f None) old new h = ap (λ s. (outcome s).errors) (sym h)
 

@@ -13,9 +13,10 @@ use Rattle.jq_stream.specs.Present.{values_outcome}
 use Rattle.jq_stream.specs.declared.filters.Filter.{Filter}
 use Rattle.jq_tree.specs.Filter as filter
 use Rattle.jq_session.specs.Splices.{IsPut, PutsChange}
-use Rattle.jq_session.specs.Starts.{AllowedStarts, first_starts}
+use Rattle.jq_session.specs.Starts.{AllowedMove, AllowedStarts, first_starts}
 use Rattle.jq_session.specs.States.{filter_plan, fold, plan_in, state_in}
 use Rattle.jq_session.specs.private.Kept.{Serves}
+use Rattle.jq_session.proofs.OnPages.{move_rises}
 
 serves_fold : CompiledFoldsWriteOutcomes → (f : Filter) → filter_mode f ≡ on_null true → view_of f.plan ≡ filter.fold → Serves f (filter_fold f)
 serves_fold law f mode planned =
@@ -25,6 +26,8 @@ serves_fold law f mode planned =
       writes = λ vs. subst (λ m. IsOutcome f.settings.exit (folded_in x vs) (values_outcome m (filter_job f) vs)) (sym mode) (law f vs planned);
       first = λ vs a b h. subst (λ p. Rises a b (first_starts p (state_in f vs))) (sym plan) h.rises;
       starts = λ edit vs ws a b h. subst (λ p. AllowedStarts p edit (state_in f vs) (state_in f ws) a b) (sym plan) h.rises;
+      moves = λ k l vs ws a b r.
+          subst (λ p. AllowedMove p k l (state_in f vs) (state_in f ws) a b) (sym plan) (move_rises f x k l vs ws a b r);
       puts = λ edit vs ws c w is change puts.
           let put : PutsChange w edit (folded_in x vs) (folded_in x ws) = record { change = c; is_change = change; pieces = puts } in
           subst (λ p. IsPut p edit w (state_in f vs) (state_in f ws)) (sym plan) ∣ put ∣₁;

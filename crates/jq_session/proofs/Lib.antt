@@ -2,6 +2,7 @@ pub mod Calls
 pub mod Lists
 pub mod Inputs
 pub mod Edited
+pub mod Moving
 pub mod OnPages
 pub mod Apart
 pub mod Folding

@@ -1,5 +1,5 @@
 -- A session that stands on the pages of a fold.
-use Rattle.std.proofs.Common.{◌≡◌, ◌≤◌, inr, ℕ, List, OnOk, OnErr, map, length, Result, Ok, Err, refl, sym, ap, ◌∙◌, subst, arith}
+use Rattle.std.proofs.Common.{◌≡◌, ◌≤◌, ◌+◌, ◌-◌, inr, ℕ, List, OnOk, OnErr, map, length, Result, Ok, Err, refl, sym, ap, ◌∙◌, subst, arith}
 use Rattle.std.proofs.Math.Logic.{∥∥₁_elim, ∥∥₁_map, ∥∥₁_prop}
 use Rattle.std.proofs.Props.{props}
 use Rattle.std.proofs.lemmas.List.{length-map}
@@ -7,25 +7,28 @@ use Rattle.std.specs.Prelude.{MatchResult}
 use Rattle.jv_meaning.specs.Value.{Value}
 use Rattle.jv_data.specs.View.{view}
 use Rattle.jv_data.specs.declared.values.Val.{Val}
-use Rattle.jq_pages.specs.Changes.{IsChange, IsRerun, IsStart}
+use Rattle.jq_pages.specs.Changes.{IsChange, IsMeeting, IsRerun, IsStart}
 use Rattle.jq_pages.specs.Changes as pages_changes
 use Rattle.jq_pages.specs.Contents.{folded_in}
-use Rattle.jq_pages.specs.Edits.{Edit, Reason, edited, no_place, full}
+use Rattle.jq_pages.specs.Edits.{Edit, Reason, edited, insert, no_place, full, remove}
 use Rattle.jq_pages.specs.Edits as pages
-use Rattle.jq_pages.specs.Folds.{Fold, Folded, all, errors, output}
+use Rattle.jq_pages.specs.Folds.{Fold, Folded, Rises, all, errors, output}
+use Rattle.jq_pages.specs.Moves.{IsMove, IsRerunTwice, moved}
+use Rattle.jq_pages.specs.Moves as pages_moves
 use Rattle.jq_pages.specs.Refusals as pages_refusals
 use Rattle.jq_pages.specs.Splices.{IsSplice, IsSpliced, came}
 use Rattle.jq_pages.specs.Totals.{totals}
 use Rattle.jq_pages.specs.declared.changes.Edited.{Edited}
+use Rattle.jq_pages.specs.declared.changes.Moved.{Moved}
 use Rattle.jq_pages.specs.declared.refusals.Refusal as pages_refusal_type
 use Rattle.jq_pages.specs.declared.refusals.Refusal.TheVariants as pages_refusal
 use Rattle.jq_pages.specs.declared.splices.Splice.{Splice}
 use Rattle.jq_stream.specs.Pieces.{status_in}
 use Rattle.jq_stream.specs.declared.filters.Filter.{Filter}
-use Rattle.jq_session.specs.Sessions.{IsRefusal}
-use Rattle.jq_session.specs.Splices.{Follows, IsPut, PutsPieces}
-use Rattle.jq_session.specs.Starts.{AllowedStarts, IsFirstRun, IsStarted}
-use Rattle.jq_session.specs.States.{Plan, State, after, each, filter_plan, fold, outcome, state_in, until_halt, whole, with_inputs}
+use Rattle.jq_session.specs.Sessions.{IsMoveRefusal, IsRefusal}
+use Rattle.jq_session.specs.Splices.{Follows, FollowsMove, IsPut, PutsPieces}
+use Rattle.jq_session.specs.Starts.{AllowedMove, AllowedStarts, IsFirstRun, IsMoveStarted, IsStarted}
+use Rattle.jq_session.specs.States.{Halves, Plan, State, after, after_move, each, filter_plan, fold, outcome, state_in, until_halt, whole, with_inputs}
 use Rattle.jq_session.specs.private.Kept.{Serves}
 use Rattle.jq_session.specs.private.Refusals.{refusal_in}
 use Rattle.jq_session.specs.declared.splices.Follow.{Follow}
@@ -131,6 +134,88 @@ follows_paged f edit x y e w k is change spliced out err status =
       err = splice_of w.err e.err _ _ _ _ err (errors_paged f x k) (errors_paged f y new) spliced.err;
       put = put_in (filter_plan f) edit w (state_in f x.inputs) (state_in f y.inputs) (∥∥₁_map k (λ s. s.puts edit x.inputs y.inputs e.change w m.0 changed puts));
       status = status;
+    }
+
+-- ---- a move
+
+pub moved_paged : {S : Type 0} (f : Filter) (k l : ℕ) (x y : Folded S) → pages_moves.after_move k l x ≡ Ok y → after_move k l (state_in f x.inputs) ≡ Ok (state_in f y.inputs)
+moved_paged f k l x y e = ap (with_inputs (state_in f x.inputs)) (made_by x y (moved k l x.inputs) e).0
+
+move_refused_by : {S : Type 0} (s : State) (x : Folded S) (refusal : pages_refusal_type.Refusal) (r : Result (List Value) Reason)
+    → pages_moves.IsMoveRefusal refusal (pages.with_inputs x r) → IsMoveRefusal (refusal_in refusal) (with_inputs s r)
+move_refused_by s x pages_refusal.NoPlace (Ok vs) e = cc
+move_refused_by s x pages_refusal.NoPlace (Err reason) e = let same : reason ≡ no_place = cc in ap Err same
+move_refused_by s x pages_refusal.Full r e = e
+move_refused_by s x pages_refusal.NoMemory (Ok vs) e = e
+move_refused_by s x pages_refusal.NoMemory (Err reason) e = e
+
+pub move_refused : {S : Type 0} (f : Filter) (k l : ℕ) (x : Folded S) (refusal : pages_refusal_type.Refusal)
+    → pages_moves.IsMoveRefusal refusal (pages_moves.after_move k l x) → IsMoveRefusal (refusal_in refusal) (after_move k l (state_in f x.inputs))
+move_refused f k l x refusal h = move_refused_by (state_in f x.inputs) x refusal (moved k l x.inputs) h
+
+edited_by : (s t : State) (r : Result (List Value) Reason) → with_inputs s r ≡ Ok t → r ≡ Ok t.inputs
+edited_by s t (Ok vs) e = ap (λ z. Ok (ok_in t z).inputs) e
+edited_by s t (Err reason) e = cc
+
+-- the halves of a move as edits of the pages
+paged_halves : {S : Type 0} (f : Filter) (x : Fold S) (k l : ℕ) (vs ws : List Value) → Halves k l (state_in f vs) (state_in f ws) → pages_moves.Halves k l (folded_in x vs) (folded_in x ws)
+paged_halves f x k l vs ws h = record {
+  value = h.value;
+  middle = folded_in x h.middle.inputs;
+  there = h.there;
+  removed = ap (pages.with_inputs (folded_in x vs)) (edited_by (state_in f vs) h.middle (edited (remove k) vs) h.removed);
+  inserted = ap (pages.with_inputs (folded_in x h.middle.inputs)) (edited_by h.middle (state_in f ws) (edited (insert l h.value) h.middle.inputs) h.inserted);
+}
+
+-- a bound on the starts of a move
+pub move_rises : {S : Type 0} (f : Filter) (x : Fold S) (k l : ℕ) (vs ws : List Value) (a b : ℕ) → IsRerunTwice k l (folded_in x vs) (folded_in x ws) a b
+    → (h : Halves k l (state_in f vs) (state_in f ws)) (m n : ℕ) → IsMeeting (remove k) (folded_in x vs) (folded_in x h.middle.inputs) m
+    → IsMeeting (insert l h.value) (folded_in x h.middle.inputs) (folded_in x ws) n → Rises a b (((m - k) + 129) + ((n - l) + 129))
+unfolding paged_halves
+move_rises f x k l vs ws a b r h m n first second = r.rises (paged_halves f x k l vs ws h) m n first second
+
+halves_paged : {S : Type 0} (f : Filter) (k l : ℕ) (x y : Folded S) → pages_moves.Halves k l x y → Halves k l (state_in f x.inputs) (state_in f y.inputs)
+halves_paged f k l x y h = record {
+  value = h.value;
+  middle = state_in f h.middle.inputs;
+  there = h.there;
+  removed = after_paged f (remove k) x h.middle h.removed;
+  inserted = after_paged f (insert l h.value) h.middle y h.inserted;
+}
+
+move_allowed : (p : Plan) (k l : ℕ) (s t : State) (a b : ℕ) → ∥ AllowedMove p k l s t a b ∥₁ → AllowedMove p k l s t a b
+move_allowed each k l s t a b r = record { low = ∥∥₁_elim r (hlevel props) (λ r. r.low); high = ∥∥₁_elim r (hlevel props) (λ r. r.high) }
+move_allowed (fold f) k l s t a b r = λ h m n first second.
+    record { low = ∥∥₁_elim r (hlevel props) (λ r. (r h m n first second).low); high = ∥∥₁_elim r (hlevel props) (λ r. (r h m n first second).high) }
+move_allowed until_halt k l s t a b r = λ h m n first second.
+    record { low = ∥∥₁_elim r (hlevel props) (λ r. (r h m n first second).low); high = ∥∥₁_elim r (hlevel props) (λ r. (r h m n first second).high) }
+move_allowed whole k l s t a b r = λ h. record { low = ∥∥₁_elim r (hlevel props) (λ r. (r h).low); high = ∥∥₁_elim r (hlevel props) (λ r. (r h).high) }
+
+move_started_by : {S : Type 0} (f : Filter) (k l : ℕ) (x : Folded S) (r : Result (List Value) Reason) (a b : ℕ) → ∥ Serves f x.fold ∥₁
+    → MatchResult (pages.with_inputs x r) (λ y. IsRerunTwice k l x y a b) (λ reason. b ≡ a)
+    → MatchResult (with_inputs (state_in f x.inputs) r) (λ t. AllowedMove (filter_plan f) k l (state_in f x.inputs) t a b) (λ reason. b ≡ a)
+move_started_by f k l x (Ok vs) a b q h = move_allowed (filter_plan f) k l (state_in f x.inputs) (state_in f vs) a b (∥∥₁_map q (λ s. s.moves k l x.inputs vs a b h))
+move_started_by f k l x (Err reason) a b q h = h
+
+pub move_started : {S : Type 0} (f : Filter) (k l : ℕ) (x : Folded S) (a b : ℕ) → ∥ Serves f x.fold ∥₁ → pages_moves.IsMoveStarted k l x a b → IsMoveStarted k l (state_in f x.inputs) a b
+move_started f k l x a b q h = move_started_by f k l x (moved k l x.inputs) a b q h
+
+pub served_moved : {A E S : Type 0} (r : Result A E) (f : Filter) (k l : ℕ) (x y : Folded S) → OnOk r (pages_moves.after_move k l x ≡ Ok y) → OnErr r (y ≡ x) → ∥ Serves f x.fold ∥₁ → ∥ Serves f y.fold ∥₁
+served_moved (Ok a) f k l x y ok err q = served_by f x.fold y.fold (made_by x y (moved k l x.inputs) ok).1 q
+served_moved (Err e) f k l x y ok err q = served_by f x.fold y.fold (ap (λ z. z.fold) err) q
+
+pub follows_move : {S : Type 0} (f : Filter) (k l : ℕ) (x y : Folded S) (m : Moved) (v w : Follow) → ∥ Serves f x.fold ∥₁ → IsMove k l m x y
+    → v.out ≡ m.removal.out → v.err ≡ m.removal.err → v.status ≡ status_in f.settings.exit m.between
+    → w.out ≡ m.insertion.out → w.err ≡ m.insertion.err → w.status ≡ (outcome (state_in f y.inputs)).status → FollowsMove v w k l (state_in f x.inputs) (state_in f y.inputs)
+unfolding halves_paged
+follows_move f k l x y m v w q is out err status later_out later_err later_status =
+    let h = is.halves in
+    let served = served_by f x.fold h.middle.fold (made (remove k) x h.middle h.removed).1 q in
+    let between : v.status ≡ (outcome (state_in f h.middle.inputs)).status = status ∙ ap (status_in f.settings.exit) is.between ∙ status_paged f h.middle served in
+    record {
+      halves = halves_paged f k l x y h;
+      removal = follows_paged f (remove k) x h.middle m.removal v q h.removed is.removal is.cut out err between;
+      insertion = follows_paged f (insert l h.value) h.middle y m.insertion w served h.inserted is.insertion is.put later_out later_err later_status;
     }
 
 -- ---- the start

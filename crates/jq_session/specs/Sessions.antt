@@ -59,6 +59,13 @@ IsRefusal refusal.Full after = after ≡ Err full
 IsRefusal refusal.NoMemory after = IsOk after
 IsRefusal refusal.Write after = ⊥
 
+-- A move is refused if one of its places is not there, and with `NoMemory` only if the definition accepts it.
+abbrev pub IsMoveRefusal : Refusal → Result State Reason → Type 0
+IsMoveRefusal refusal.NoPlace after = after ≡ Err no_place
+IsMoveRefusal refusal.Full after = ⊥
+IsMoveRefusal refusal.NoMemory after = IsOk after
+IsMoveRefusal refusal.Write after = ⊥
+
 -- A start is refused if there are more inputs than a session takes, and with `NoMemory` only if there are not.
 abbrev pub IsStartRefusal : Refusal → ℕ → Type 0
 IsStartRefusal refusal.NoPlace count = ⊥

@@ -12,7 +12,7 @@ use Rattle.jq_pages.specs.declared.changes.Change.{Change}
 use Rattle.jq_pages.specs.declared.splices.Splice.{Splice}
 use Rattle.jq_stream.specs.Outcomes.{Job, printed_of, ending_report}
 use Rattle.jq_session.specs.Halting.{halting_fold}
-use Rattle.jq_session.specs.States.{Plan, each, fold, until_halt, whole, State, outcome}
+use Rattle.jq_session.specs.States.{Plan, each, fold, until_halt, whole, State, Halves, outcome}
 use Rattle.jq_session.specs.declared.splices.Follow.{Follow}
 
 -- what the run on the value that an edit puts in writes, by what a run writes; a removal puts nothing in
@@ -51,6 +51,12 @@ pub record Follows (f : Follow) (edit : Edit) (old new : State) : Type 0 where
   pub err : IsSplice f.err (outcome old).errors (outcome new).errors
   pub put : IsPut old.plan edit f old new
   pub status : f.status ≡ (outcome new).status
+
+-- The answers to a move: that to the removal and that to the insertion.
+pub record FollowsMove (first second : Follow) (k l : ℕ) (old new : State) : Type 0 where
+  pub halves : Halves k l old new
+  pub removal : Follows first (remove k) old halves.middle
+  pub insertion : Follows second (insert l halves.value) halves.middle new
 
 -- The splice replaces all old bytes by all new ones.
 pub record ReplacesAll (s : Splice) (old new : List ℕ) : Type 0 where

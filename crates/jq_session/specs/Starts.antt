@@ -3,11 +3,11 @@ use Rattle.std.specs.Prelude.{◌≡◌, ℕ, List, ◌+◌, ◌-◌, length, Ma
 use Rattle.jv_meaning.specs.Value.{Value}
 use Rattle.jq_pages.specs.Changes.{IsMeeting}
 use Rattle.jq_pages.specs.Contents.{folded_in}
-use Rattle.jq_pages.specs.Edits.{Edit, added, place}
+use Rattle.jq_pages.specs.Edits.{Edit, added, insert, place, remove}
 use Rattle.jq_pages.specs.Folds.{Fold, Rises}
 use Rattle.jq_stream.specs.Present.{run_count}
 use Rattle.jq_session.specs.Halting.{halting_fold}
-use Rattle.jq_session.specs.States.{Plan, each, fold, until_halt, whole, State, after}
+use Rattle.jq_session.specs.States.{Plan, each, fold, until_halt, whole, State, Halves, after, after_move}
 
 -- From input `m` of the new list on, which is after the edit, the fold goes on as it did: its state there is the one that it had
 -- before the same remaining inputs. Or `m` is the count of the new inputs, so that none remains.
@@ -26,6 +26,19 @@ AllowedStarts whole edit old new a b = Rises a b (run_count new.mode new.job new
 -- An edit that the definition accepts may start the filter so often, also if memory runs out. Any other edit starts nothing.
 abbrev pub IsStarted : Edit → (old : State) → (old_starts new_starts : ℕ) → Type 0
 IsStarted edit old a b = MatchResult (after edit old) (λ new. AllowedStarts old.plan edit old new a b) (λ reason. b ≡ a)
+
+-- A move may start the filter as often as its removal and its insertion together.
+abbrev pub AllowedMove : Plan → (k l : ℕ) → (old new : State) → (old_starts new_starts : ℕ) → Type 0
+AllowedMove each k l old new a b = Rises a b 1
+AllowedMove (fold f) k l old new a b = (h : Halves k l old new) (m n : ℕ) → GoesOnFrom f (remove k) old.inputs h.middle.inputs m
+    → GoesOnFrom f (insert l h.value) h.middle.inputs new.inputs n → Rises a b (((m - k) + 129) + ((n - l) + 129))
+AllowedMove until_halt k l old new a b = (h : Halves k l old new) (m n : ℕ) → GoesOnFrom (halting_fold old.job) (remove k) old.inputs h.middle.inputs m
+    → GoesOnFrom (halting_fold old.job) (insert l h.value) h.middle.inputs new.inputs n → Rises a b (((m - k) + 129) + ((n - l) + 129))
+AllowedMove whole k l old new a b = (h : Halves k l old new) → Rises a b (run_count h.middle.mode h.middle.job h.middle.inputs + run_count new.mode new.job new.inputs)
+
+-- A move that the definition accepts may start the filter so often, also if memory runs out. Any other move starts nothing.
+abbrev pub IsMoveStarted : (k l : ℕ) → (old : State) → (old_starts new_starts : ℕ) → Type 0
+IsMoveStarted k l old a b = MatchResult (after_move k l old) (λ new. AllowedMove old.plan k l old new a b) (λ reason. b ≡ a)
 
 -- how often the first runs may start the filter: as often as runs from scratch; in a fold, and on each input up to the first one whose
 -- run halts, once for each input and twice more

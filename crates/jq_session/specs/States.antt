@@ -1,12 +1,13 @@
 -- The state that a session represents: how its filter runs, how an edit is followed, and the present inputs.
-use Rattle.std.specs.Prelude.{◌≡◌, ℕ, Bool, true, false, List, [], Result, Ok, Err}
+use Rattle.std.specs.Prelude.{◌≡◌, ℕ, Bool, true, false, List, [], Option, Some, Result, Ok, Err, slice_get}
 use Rattle.jv_meaning.specs.Value.{Value}
 use Rattle.jq_folds.specs.Pieces.{FoldState}
 use Rattle.jq_fold_steps.specs.Filters.{filter_fold, compiled_fold}
 use Rattle.jq_inputs.specs.Halting.{CallsNoHalt}
 use Rattle.jq_inputs.specs.Plans.{view_of}
-use Rattle.jq_pages.specs.Edits.{Edit, Reason, edited}
+use Rattle.jq_pages.specs.Edits.{Edit, Reason, edited, insert, remove}
 use Rattle.jq_pages.specs.Folds.{Fold}
+use Rattle.jq_pages.specs.Moves.{moved}
 use Rattle.jq_stream.specs.Filters.{filter_job, filter_mode}
 use Rattle.jq_stream.specs.Outcomes.{Mode, on_each, on_null, on_all, Job, Outcome}
 use Rattle.jq_stream.specs.Present.{values_outcome}
@@ -78,6 +79,18 @@ with_inputs s (Err reason) = Err reason
 -- An edit changes only the inputs.
 abbrev pub after : Edit → State → Result State Reason
 after edit s = with_inputs s (edited edit s.inputs)
+
+-- A move changes only the inputs: input `k` is removed, and inserted at place `l` of the shorter list.
+abbrev pub after_move : (k l : ℕ) → State → Result State Reason
+after_move k l s = with_inputs s (moved k l s.inputs)
+
+-- A move as two edits: `value` is the input that moves, and `middle` the state between the removal and the insertion.
+pub record Halves (k l : ℕ) (old new : State) : Type 0 where
+  pub value : Value
+  pub middle : State
+  pub there : slice_get old.inputs k ≡ Some value
+  pub removed : after (remove k) old ≡ Ok middle
+  pub inserted : after (insert l value) middle ≡ Ok new
 
 -- Another filter changes all but the inputs.
 abbrev pub refiltered : Filter → State → State

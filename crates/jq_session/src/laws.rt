@@ -5,8 +5,8 @@ ghost use Rattle.jq_session.specs.laws.Plans.{PlansAreByTheTree};
 
 use jq_fold_steps::laws::a_compiled_fold_comes_after_the_prelude;
 
-/// After any calls, accepted or refused, a session's state is that of the last filter it took, with the inputs that the accepted edits
-/// leave, and what it writes is the outcome of runs from scratch on these inputs. The filters were started no more often than the
+/// After any calls, accepted or refused, a session's state is that of the last filter it took, with the inputs that the accepted edits and
+/// moves leave, and what it writes is the outcome of runs from scratch on these inputs. The filters were started no more often than the
 /// calls may start them together.
 #[tactic(auto, using(crate::proofs::Calls::stands_for_present, crate::proofs::Calls::always_right, crate::proofs::Calls::no_more))]
 pub fn a_session_stands_for_its_present_inputs()

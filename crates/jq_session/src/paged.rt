@@ -34,10 +34,10 @@ impl<S: Steps> PagedSession<S> {
     ghost use Rattle.jq_pages.specs.Contents.{starts_of};
     ghost use Rattle.jq_pages.specs.Edits.{insert, most_inputs, remove, replace};
     ghost use Rattle.jq_pages.specs.Refusals.{IsStartRefusal};
-    ghost use Rattle.jq_session.specs.Sessions.{IsRefusal, paged_state};
-    ghost use Rattle.jq_session.specs.Splices.{Follows};
-    ghost use Rattle.jq_session.specs.Starts.{IsFirstRun, IsStarted};
-    ghost use Rattle.jq_session.specs.States.{after, outcome, state_in};
+    ghost use Rattle.jq_session.specs.Sessions.{IsMoveRefusal, IsRefusal, paged_state};
+    ghost use Rattle.jq_session.specs.Splices.{Follows, FollowsMove};
+    ghost use Rattle.jq_session.specs.Starts.{IsFirstRun, IsMoveStarted, IsStarted};
+    ghost use Rattle.jq_session.specs.States.{after, after_move, outcome, state_in};
 
     /// Runs these steps over the inputs.
     pub(crate) fn start(
@@ -99,6 +99,30 @@ impl<S: Steps> PagedSession<S> {
         let before = self.starts();
         match self.pages.remove(k) {
             Ok(edited) => Ok(self.followed(edited, before)),
+            Err(refusal) => Err(refusal_of(refusal)),
+        }
+    }
+
+    pub(crate) fn shift(&mut self, k: u64, l: u64) -> Result<(Follow, Follow), Refusal>
+        ensures moved { OnOk result (after_move k l (paged_state self.old) ≡ Ok (paged_state self.new)) }
+        ensures follow { IfOk result (λ r. FollowsMove r.0 r.1 k l (paged_state self.old) (paged_state self.new)) }
+        ensures refused { IfErr result (λ refusal. IsMoveRefusal refusal (after_move k l (paged_state self.old))) }
+        ensures unchanged { OnErr result (paged_state self.new ≡ paged_state self.old) }
+        ensures runs { IfOk result (λ r. starts_of self.new.pages ≡ starts_of self.old.pages + (r.0.runs + r.1.runs)) }
+        ensures started { IsMoveStarted k l (paged_state self.old) (starts_of self.old.pages) (starts_of self.new.pages) }
+    {
+        let before = self.starts();
+        match self.pages.shift(k, l) {
+            Ok(moved) => {
+                let first = Follow {
+                    out: moved.removal.out,
+                    err: moved.removal.err,
+                    status: status_of(self.filter.settings().exit, moved.between),
+                    runs: moved.starts - before,
+                };
+                let second = self.followed(moved.insertion, moved.starts);
+                Ok((first, second))
+            }
             Err(refusal) => Err(refusal_of(refusal)),
         }
     }

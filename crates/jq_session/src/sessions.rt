@@ -29,10 +29,10 @@ impl Session {
     ghost use Rattle.jq_pages.specs.Edits.{insert, most_inputs, remove, replace};
     ghost use Rattle.jq_starts.specs.Starts.{starts_in};
     ghost use Rattle.jq_syntax.specs.Chosen.{chosen};
-    ghost use Rattle.jq_session.specs.Sessions.{IsRefusal, IsStartRefusal, options_of, point_of, starts_kept, starts_of, state_kept, state_of};
-    ghost use Rattle.jq_session.specs.Splices.{Follows, FollowsFilter};
-    ghost use Rattle.jq_session.specs.Starts.{IsFirstRun, IsStarted};
-    ghost use Rattle.jq_session.specs.States.{after, outcome, refiltered, state_in};
+    ghost use Rattle.jq_session.specs.Sessions.{IsMoveRefusal, IsRefusal, IsStartRefusal, options_of, point_of, starts_kept, starts_of, state_kept, state_of};
+    ghost use Rattle.jq_session.specs.Splices.{Follows, FollowsFilter, FollowsMove};
+    ghost use Rattle.jq_session.specs.Starts.{IsFirstRun, IsMoveStarted, IsStarted};
+    ghost use Rattle.jq_session.specs.States.{after, after_move, outcome, refiltered, state_in};
 
     /// Starts a session of a filter over its first inputs, and makes the runs on them. Each start of the filter is counted. It is
     /// refused if there are more than 1,000,000 inputs, or if memory runs out; the count then comes back with the refusal. The options
@@ -131,6 +131,25 @@ impl Session {
         ensures options { options_of self.new ≡ options_of self.old }
     {
         self.insert(self.len(), value)
+    }
+
+    /// Moves an input: input `k` is removed, and inserted at place `l` of the shorter list. The answers are those to the removal and
+    /// to the insertion; the status of the second is the session's. If it is refused, nothing changed.
+    pub fn shift(&mut self, k: u64, l: u64) -> Result<(Follow, Follow), Refusal>
+        ensures moved { OnOk result (after_move k l (state_of self.old) ≡ Ok (state_of self.new)) }
+        ensures follow { IfOk result (λ r. FollowsMove r.0 r.1 k l (state_of self.old) (state_of self.new)) }
+        ensures refused { IfErr result (λ refusal. IsMoveRefusal refusal (after_move k l (state_of self.old))) }
+        ensures unchanged { OnErr result (state_of self.new ≡ state_of self.old) }
+        ensures runs { IfOk result (λ r. starts_of self.new ≡ starts_of self.old + (r.0.runs + r.1.runs)) }
+        ensures started { IsMoveStarted k l (state_of self.old) (starts_of self.old) (starts_of self.new) }
+        ensures options { options_of self.new ≡ options_of self.old }
+    {
+        match &mut self.kept {
+            Kept::Each(session) => session.shift(k, l),
+            Kept::Fold(session) => session.shift(k, l),
+            Kept::UntilHalt(session) => session.shift(k, l),
+            Kept::Whole(session) => session.shift(k, l),
+        }
     }
 
     /// Runs another filter over the present inputs, with its own count of starts, and takes it unless memory runs out. Returns the

@@ -38,10 +38,10 @@ impl WholeSession {
     ghost use Rattle.jq_devices.specs.Watched.{HasFailed, device_of, failures_of};
     ghost use Rattle.jq_devices.specs.Writing.{AppendsFirst};
     ghost use Rattle.jq_pages.specs.Edits.{Edit, insert, remove, replace};
-    ghost use Rattle.jq_session.specs.Sessions.{IsRefusal, IsStartRefusal, whole_state};
-    ghost use Rattle.jq_session.specs.Splices.{Follows};
-    ghost use Rattle.jq_session.specs.Starts.{IsStarted};
-    ghost use Rattle.jq_session.specs.States.{State, after, outcome, over};
+    ghost use Rattle.jq_session.specs.Sessions.{IsMoveRefusal, IsRefusal, IsStartRefusal, whole_state};
+    ghost use Rattle.jq_session.specs.Splices.{Follows, FollowsMove};
+    ghost use Rattle.jq_session.specs.Starts.{IsMoveStarted, IsStarted};
+    ghost use Rattle.jq_session.specs.States.{State, after, after_move, outcome, over};
 
     /// Makes all runs on these inputs.
     pub(crate) fn start(
@@ -140,6 +140,25 @@ impl WholeSession {
         Ok(self.follow(inputs)?)
     }
 
+    pub(crate) fn shift(&mut self, k: u64, l: u64) -> Result<(Follow, Follow), Refusal>
+        ensures moved { OnOk result (after_move k l (whole_state self.old) ≡ Ok (whole_state self.new)) }
+        ensures follow { IfOk result (λ r. FollowsMove r.0 r.1 k l (whole_state self.old) (whole_state self.new)) }
+        ensures refused { IfErr result (λ refusal. IsMoveRefusal refusal (after_move k l (whole_state self.old))) }
+        ensures unchanged { OnErr result (whole_state self.new ≡ whole_state self.old) }
+        ensures runs { IfOk result (λ r. starts_in self.new.starts ≡ starts_in self.old.starts + (r.0.runs + r.1.runs)) }
+        ensures started { IsMoveStarted k l (whole_state self.old) (starts_in self.old.starts) (starts_in self.new.starts) }
+    {
+        if k >= self.len() || l >= self.len() {
+            return Err(Refusal::NoPlace);
+        }
+        let (from, to) = (k as usize, l as usize);
+        let all = &self.inputs;
+        let value = all[from].copy()?;
+        let others = joined(self.alloc, &all[..from], None, &all[from + 1..])?;
+        let inputs = joined(self.alloc, &others[..to], Some(value), &others[to..])?;
+        Ok(self.follow_move(&others, inputs)?)
+    }
+
     // Runs the filter over other inputs, and takes these inputs unless memory runs out.
     fn follow(&mut self, inputs: Vec<Val>) -> Result<Follow, NoMemory>
         requires { length inputs.items ≤ most_inputs }
@@ -154,6 +173,30 @@ impl WholeSession {
         self.inputs = inputs;
         self.written = written;
         Ok(follow)
+    }
+
+    // Runs the filter over all inputs but one, and then over all of them in another order, and takes these unless memory runs out.
+    fn follow_move(
+        &mut self,
+        others: &[Val],
+        inputs: Vec<Val>,
+    ) -> Result<(Follow, Follow), NoMemory>
+        requires { length inputs.items ≤ most_inputs }
+        ensures moved { OnOk result (whole_state self.new ≡ over (whole_state self.old) (map view inputs.items)) }
+        ensures first { IfOk result (λ r. (edit : Edit) → Follows r.0 edit (whole_state self.old) (over (whole_state self.old) (map view others.now))) }
+        ensures second { IfOk result (λ r. (edit : Edit) → Follows r.1 edit (over (whole_state self.old) (map view others.now)) (whole_state self.new)) }
+        ensures unchanged { OnErr result (whole_state self.new ≡ whole_state self.old) }
+        ensures runs { IfOk result (λ r. starts_in self.new.starts ≡ starts_in self.old.starts + (r.0.runs + r.1.runs)) }
+        ensures rises { Rises (starts_in self.old.starts) (starts_in self.new.starts)
+            (run_count (filter_mode self.old.filter) (filter_job self.old.filter) (map view others.now) + run_count (filter_mode self.old.filter) (filter_job self.old.filter) (map view inputs.items)) }
+    {
+        let (between, first_runs) = run_over(self.alloc, &self.filter, &mut self.starts, others)?;
+        let (written, runs) = run_over(self.alloc, &self.filter, &mut self.starts, &inputs)?;
+        let first = answer(self.alloc, &self.written, &between, first_runs)?;
+        let second = answer(self.alloc, &between, &written, runs)?;
+        self.inputs = inputs;
+        self.written = written;
+        Ok((first, second))
     }
 
     /// Copies of the inputs.

@@ -34,5 +34,12 @@ fn one_page_of_many(rt: HostRuntime) -> Result<(), Fail> {
         list[k as usize] = number;
         client.check_same(&rt, FILTER, &fresh(&rt, ("", FILTER), &list)?);
     }
+    let (removal, insertion) = session.shift(999, 500)?;
+    assert!(&rt; removal.runs + insertion.runs <= 259);
+    client.follow(alloc, &removal)?;
+    client.follow(alloc, &insertion)?;
+    let last = list.remove(999);
+    list.insert(500, last)?;
+    client.check_same(&rt, FILTER, &fresh(&rt, ("", FILTER), &list)?);
     Ok(())
 }

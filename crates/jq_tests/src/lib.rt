@@ -25,6 +25,8 @@ mod halts;
 #[cfg(test)]
 mod memory;
 #[cfg(test)]
+mod moves;
+#[cfg(test)]
 mod pieces;
 #[cfg(test)]
 mod programs;

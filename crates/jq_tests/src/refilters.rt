@@ -57,9 +57,11 @@ fn as_a_fresh_session(rt: HostRuntime) -> Result<(), Fail> {
         client.follow(alloc, &follow)?;
         client.check_same(&rt, filter, &fresh(&rt, (flag, filter), &list)?);
         total += follow.runs;
+        let (removal, insertion) = session.shift(0, 99)?;
         for edit in [
-            session.remove(0)?,
-            session.append(Val::Num(1))?,
+            removal,
+            insertion,
+            session.replace(99, Val::Num(1))?,
             session.replace(98, Val::Num(3))?,
         ] {
             client.follow(alloc, &edit)?;

@@ -1,4 +1,4 @@
-// Other filters that are refused memory, and are taken again (tests/growth.py refuses each allocation in turn).
+// Moves and other filters that are refused memory, and are made again (tests/growth.py refuses each allocation in turn).
 use crate::memory::{check_session, mark};
 use crate::starting::{compile_under, numbers, started};
 use jq_session::{Refusal, Session};
@@ -10,7 +10,99 @@ use std::test::Fail;
 // A session's output, errors and status.
 type State = (&'static str, &'static str, u8);
 
+// A move, and the state after it.
+type Move = (u64, u64, State);
+
+// Makes each move. One that finds no memory leaves the session as it was, and is made again.
+fn check_moves(
+    rt: &impl Abort,
+    session: &mut Session,
+    first: State,
+    moves: &[Move],
+) -> Result<(), Fail> {
+    let mut before = first;
+    for (k, l, want) in moves {
+        let mut answer = session.shift(*k, *l);
+        if let Err(Refusal::NoMemory) = &answer {
+            assert_eq!(rt; session.len(), 4);
+            check_session(rt, session, before)?;
+            answer = session.shift(*k, *l);
+        }
+        let (_removal, insertion) = answer?;
+        assert_eq!(rt; insertion.status, want.2);
+        check_session(rt, session, *want)?;
+        before = *want;
+    }
+    Ok(())
+}
+
 const QUOTIENT: &str = "jq: error: quotient is not whole\n";
+
+const LISTS: [Move; 3] = [
+    (0, 3, ("[2,3,4,1]\n10\n", "", 0)),
+    (2, 1, ("[2,4,3,1]\n10\n", "", 0)),
+    (1, 1, ("[2,4,3,1]\n10\n", "", 0)),
+];
+
+#[test]
+fn moves_on_each_input(rt: HostRuntime) -> Result<(), Fail> {
+    let alloc = rt.alloc();
+    let mut session = started(&rt, "", "6 / .", numbers(alloc, 4)?)?;
+    let mark = mark(alloc)?;
+    check_moves(
+        &rt,
+        &mut session,
+        ("6\n3\n2\n", QUOTIENT, 5),
+        &[
+            (3, 1, ("6\n3\n2\n", QUOTIENT, 5)),
+            (0, 3, ("3\n2\n6\n", QUOTIENT, 5)),
+            (2, 0, ("2\n3\n6\n", QUOTIENT, 5)),
+        ],
+    )?;
+    assert!(rt; mark.is_empty());
+    Ok(())
+}
+
+#[test]
+fn moves_up_to_a_halt(rt: HostRuntime) -> Result<(), Fail> {
+    let alloc = rt.alloc();
+    let filter = "if . == 3 then halt else . end";
+    let mut session = started(&rt, "", filter, numbers(alloc, 4)?)?;
+    let mark = mark(alloc)?;
+    check_moves(
+        &rt,
+        &mut session,
+        ("1\n2\n", "", 0),
+        &[
+            (2, 3, ("1\n2\n4\n", "", 0)),
+            (3, 0, ("", "", 0)),
+            (0, 1, ("1\n", "", 0)),
+        ],
+    )?;
+    assert!(rt; mark.is_empty());
+    Ok(())
+}
+
+#[test]
+fn moves_on_all_inputs(rt: HostRuntime) -> Result<(), Fail> {
+    let alloc = rt.alloc();
+    let mut session = started(&rt, "-s", "., add", numbers(alloc, 4)?)?;
+    let mark = mark(alloc)?;
+    check_moves(&rt, &mut session, ("[1,2,3,4]\n10\n", "", 0), &LISTS)?;
+    assert!(rt; mark.is_empty());
+    Ok(())
+}
+
+#[test]
+fn moves_in_a_fold(rt: HostRuntime) -> Result<(), Fail> {
+    let alloc = rt.alloc();
+    let filter = "reduce inputs as $x ([]; . + [$x]) | ., add";
+    let mut session = started(&rt, "-n", filter, numbers(alloc, 4)?)?;
+    let mark = mark(alloc)?;
+    check_moves(&rt, &mut session, ("[1,2,3,4]\n10\n", "", 0), &LISTS)?;
+    assert!(rt; mark.is_empty());
+    Ok(())
+}
 
 // The session takes another filter. If it finds no memory, the session and its count are as they were, and the filter, compiled a
 // second time, is taken with the count that came back.

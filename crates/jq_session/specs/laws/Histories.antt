@@ -5,16 +5,18 @@ use Rattle.jq_stream.specs.Present.{values_outcome}
 use Rattle.jq_stream.specs.declared.filters.Filter.{Filter}
 use Rattle.jq_pages.specs.Edits.{Edit, Reason, edited}
 use Rattle.jq_pages.specs.Folds.{Rises}
+use Rattle.jq_pages.specs.Moves.{moved}
 use Rattle.jq_pages.specs.Splices.{spliced}
 use Rattle.jq_pages.specs.declared.splices.Splice.{Splice}
-use Rattle.jq_session.specs.States.{State, Point, over, after, outcome, refiltered}
-use Rattle.jq_session.specs.Splices.{Follows, FollowsFilter}
-use Rattle.jq_session.specs.Starts.{IsFirstRun, IsStarted}
+use Rattle.jq_session.specs.States.{State, Point, over, after, after_move, outcome, refiltered}
+use Rattle.jq_session.specs.Splices.{Follows, FollowsFilter, FollowsMove}
+use Rattle.jq_session.specs.Starts.{IsFirstRun, IsMoveStarted, IsStarted}
 use Rattle.jq_session.specs.declared.splices.Follow.{Follow}
 
--- A call, and its answer if it was accepted: an edit, or another filter.
+-- A call, and its answers if it was accepted: an edit, the move of input `k` to place `l`, or another filter.
 pub data Call : Type 0 where
   edit_call : Edit → Option Follow → Call
+  move_call : (k l : ℕ) → Option (Follow × Follow) → Call
   filter_call : Filter → Option Follow → Call
 
 -- ---- a call
@@ -24,6 +26,12 @@ pub record Made (edit : Edit) (follow : Follow) (old new : Point) : Type 0 where
   pub edited : after edit old.state ≡ Ok new.state
   pub follows : Follows follow edit old.state new.state
   pub runs : new.starts ≡ old.starts + follow.runs
+
+-- The same for a move.
+pub record Shifted (k l : ℕ) (first second : Follow) (old new : Point) : Type 0 where
+  pub moved : after_move k l old.state ≡ Ok new.state
+  pub follows : FollowsMove first second k l old.state new.state
+  pub runs : new.starts ≡ old.starts + (first.runs + second.runs)
 
 -- The same for another filter. The session counts its starts with another count; here they are added to those of the filters before it.
 pub record Refiltered (f : Filter) (follow : Follow) (old new : Point) : Type 0 where
@@ -35,12 +43,15 @@ pub record Refiltered (f : Filter) (follow : Follow) (old new : Point) : Type 0 
 abbrev pub Changes : Call → Point → Point → Type 0
 Changes (edit_call edit (Some follow)) old new = Made edit follow old new
 Changes (edit_call edit None) old new = new.state ≡ old.state
+Changes (move_call k l (Some answers)) old new = Shifted k l answers.0 answers.1 old new
+Changes (move_call k l None) old new = new.state ≡ old.state
 Changes (filter_call f (Some follow)) old new = Refiltered f follow old new
 Changes (filter_call f None) old new = new.state ≡ old.state
 
 -- A call may start a filter so often, accepted or refused.
 abbrev pub MayStart : Call → State → (old_starts new_starts : ℕ) → Type 0
 MayStart (edit_call edit answer) s a b = IsStarted edit s a b
+MayStart (move_call k l answers) s a b = IsMoveStarted k l s a b
 MayStart (filter_call f answer) s a b = IsFirstRun (refiltered f s) a b
 
 abbrev pub Leads : Call → Point → Point → Type 0
@@ -61,9 +72,11 @@ or_unchanged (Err reason) unchanged = unchanged
 abbrev pub called : Call → List Value → List Value
 called (edit_call edit (Some follow)) inputs = or_unchanged (edited edit inputs) inputs
 called (edit_call edit None) inputs = inputs
+called (move_call k l (Some answers)) inputs = or_unchanged (moved k l inputs) inputs
+called (move_call k l None) inputs = inputs
 called (filter_call f answer) inputs = inputs
 
--- the inputs after the calls, of which only the accepted edits change them
+-- the inputs after the calls, of which only the accepted edits and moves change them
 abbrev pub present_inputs : List Call → List Value → List Value
 present_inputs [] inputs = inputs
 present_inputs (call ∷ calls) inputs = present_inputs calls (called call inputs)
@@ -71,6 +84,7 @@ present_inputs (call ∷ calls) inputs = present_inputs calls (called call input
 -- the state with the filter after a call
 abbrev pub filtered : Call → State → State
 filtered (edit_call edit answer) s = s
+filtered (move_call k l answers) s = s
 filtered (filter_call f (Some follow)) s = refiltered f s
 filtered (filter_call f None) s = s
 
@@ -85,6 +99,8 @@ present_filter (call ∷ calls) s = present_filter calls (filtered call s)
 abbrev pub answers_to : Call → List Follow
 answers_to (edit_call edit (Some follow)) = follow ∷ []
 answers_to (edit_call edit None) = []
+answers_to (move_call k l (Some answers)) = answers.0 ∷ answers.1 ∷ []
+answers_to (move_call k l None) = []
 answers_to (filter_call f (Some follow)) = follow ∷ []
 answers_to (filter_call f None) = []
 
