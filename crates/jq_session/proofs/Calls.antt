@@ -1,13 +1,11 @@
 -- Calls of a session, one after the other.
-use Rattle.std.proofs.Common.{◌≡◌, ℕ, List, [], ◌∷◌, Option, Some, None, Result, Ok, Err, refl, sym, ap, ◌∙◌, subst, arith}
+use Rattle.std.proofs.Common.{◌≡◌, ℕ, List, [], ◌∷◌, Some, None, Result, Ok, Err, refl, sym, ap, ◌∙◌, subst, arith}
 use Rattle.jv_meaning.specs.Value.{Value}
 use Rattle.jq_stream.specs.Present.{values_outcome}
-use Rattle.jq_stream.specs.declared.filters.Filter.{Filter}
-use Rattle.jq_pages.specs.Edits.{Edit, Reason, edited}
+use Rattle.jq_pages.specs.Edits.{Reason, edited}
 use Rattle.jq_pages.specs.Folds.{Rises}
 use Rattle.jq_pages.specs.Moves.{moved}
 use Rattle.jq_session.specs.States.{State, Point, over, with_inputs, outcome, refiltered}
-use Rattle.jq_session.specs.declared.splices.Follow.{Follow}
 use Rattle.jq_session.specs.laws.Histories.{Call, edit_call, move_call, filter_call, Changes, Leads, IsBound, IsHistory, or_unchanged, called, filtered, present_filter, present_inputs, answers_to, followed, followed_all}
 
 -- ---- the state

@@ -10,7 +10,7 @@ use Rattle.jq_fold_steps.specs.laws.Outcomes.{IsOutcome}
 use Rattle.jq_inputs.specs.Plans.{view_of}
 use Rattle.jq_meaning.specs.Runs.{Run, Item, none}
 use Rattle.jq_pages.specs.Contents.{folded_in}
-use Rattle.jq_pages.specs.Folds.{Rises, all, errors, output, pieces_after}
+use Rattle.jq_pages.specs.Folds.{Rises, errors, output, pieces_after}
 use Rattle.jq_pages.specs.Pieces.{PieceView}
 use Rattle.jq_pages.specs.Totals.{earlier, later, totals}
 use Rattle.jq_pages.specs.declared.pieces.Last.{Last}
@@ -18,7 +18,7 @@ use Rattle.jq_pages.specs.declared.pieces.Last.TheVariants as last
 use Rattle.jq_stream.specs.Filters.{filter_job, filter_mode}
 use Rattle.jq_stream.specs.Outcomes.{Job, on_each, printed_of, ending_report, is_failure, halt_status, runs_printed, runs_reported, any_failure, last_by, last_item, last_output, nothing, falsy, truthy, end_status, first_halt, up_to_halt, unless_halted}
 use Rattle.jq_stream.specs.Outcomes as outcomes
-use Rattle.jq_stream.specs.Pieces.{last_in, last_of, no_piece, piece_of, status_in}
+use Rattle.jq_stream.specs.Pieces.{last_in, last_of, no_piece, piece_of}
 use Rattle.jq_stream.specs.Present.{values_outcome}
 use Rattle.jq_stream.specs.declared.filters.Filter.{Filter}
 use Rattle.jq_session.specs.Halting.{halting_fold, halting_step}
