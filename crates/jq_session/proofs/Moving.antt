@@ -1,18 +1,18 @@
 -- The effect of a move of an input on the state of a session.
-use Rattle.std.proofs.Common.{◌≡◌, ℕ, ◌+◌, ◌<◌, ◌≤◌, List, [], ◌∷◌, length, take, drop, map, get_or, Some, Ok, Err, IsOk, refl, sym, ap, ◌∙◌, subst, arith}
+use Rattle.std.proofs.Common.{◌≡◌, ℕ, ◌+◌, ◌<◌, ◌≤◌, List, [], ◌∷◌, length, take, drop, map, get_or, Option, Some, None, Result, Ok, Err, IsOk, refl, sym, ap, ◌∙◌, subst, arith}
 use Rattle.std.specs.Prelude.{MatchResult, slice_get}
 use Rattle.std.proofs.lemmas.Bool.{lt-ltb, le-ltb}
 use Rattle.std.proofs.lemmas.List.{length-map}
 use Rattle.std.proofs.lemmas.List.Edits.{length-insert, length-remove}
-use Rattle.std.proofs.lemmas.Option.{slice_get-map, slice_get_past, slice_get_read}
+use Rattle.std.proofs.lemmas.Option.{slice_get-map, slice_get_past, slice_get_read, slice_get_within}
 use Rattle.std.specs.List as list
 use Rattle.std.specs.Option.{option_map}
 use Rattle.jv_meaning.specs.Value.{Value}
 use Rattle.jv_data.specs.View.{view}
 use Rattle.jv_data.specs.declared.values.Val.{Val}
-use Rattle.jq_pages.specs.Edits.{Edit, insert, remove, most_inputs, no_place}
+use Rattle.jq_pages.specs.Edits.{Edit, Reason, edited, insert, remove, most_inputs, no_place}
 use Rattle.jq_pages.specs.Folds.{Rises}
-use Rattle.jq_pages.specs.Moves.{moved}
+use Rattle.jq_pages.specs.Moves.{moved, moved_input}
 use Rattle.jq_stream.specs.Present.{run_count}
 use Rattle.jq_session.specs.Splices.{Follows, FollowsMove}
 use Rattle.jq_session.specs.Starts.{AllowedMove, IsMoveStarted}
@@ -107,6 +107,32 @@ halves_moved k l s t h below =
     let e : h.middle ≡ over s (list.remove s.inputs k) = without_it k s h.middle below h.removed in
     let there : after_move k l s ≡ after (insert l h.value) (over s (list.remove s.inputs k)) = rw h.there in
     there ∙ ap (after (insert l h.value)) (sym e) ∙ h.inserted
+
+-- ---- the laws of moves
+
+pub halves_are_moves : (k l : ℕ) (s t : State) → Halves k l s t → after_move k l s ≡ Ok t
+halves_are_moves k l s t h = halves_moved k l s t h (slice_get_within s.inputs k h.value h.there)
+
+same_over : (s : State) (vs : List Value) (r : Result (List Value) Reason) → with_inputs (over s vs) r ≡ with_inputs s r
+same_over s vs (Ok ws) = refl
+same_over s vs (Err reason) = refl
+
+halves_at : (k l : ℕ) (s t : State) (o : Option Value) → slice_get s.inputs k ≡ o → with_inputs s (moved_input o k l s.inputs) ≡ Ok t → Halves k l s t
+halves_at k l s t None there e = cc
+halves_at k l s t (Some v) there e =
+    let rest = list.remove s.inputs k in
+    record {
+      value = v;
+      middle = over s rest;
+      there = there;
+      removed = rw (lt-ltb k (length s.inputs) (slice_get_within s.inputs k v there));
+      inserted = same_over s rest (edited (insert l v) rest) ∙ e;
+    }
+
+pub moves_have_halves : (k l : ℕ) (s t : State) → after_move k l s ≡ Ok t → Halves k l s t
+moves_have_halves k l s t e = halves_at k l s t (slice_get s.inputs k) refl e
+
+-- ---- a move that makes all runs again
 
 pub moved_whole : (k l : ℕ) (s next : State) (v : Val) (old others inputs : List Val) → IsMoved k l s v old others inputs → next ≡ over s (map view inputs) → after_move k l s ≡ Ok next
 moved_whole k l s next v old others inputs m stands =

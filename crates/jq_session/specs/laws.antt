@@ -1,3 +1,4 @@
 pub mod Halts
 pub mod Histories
+pub mod Moves
 pub mod Plans

@@ -1,6 +1,7 @@
-// Laws of a session after any list of calls, of its plan, and of runs up to a halt.
+// Laws of a session after any list of calls, of moves, of its plan, and of runs up to a halt.
 ghost use Rattle.jq_session.specs.laws.Halts.{PiecesUpToAHaltAreTheOutcome};
 ghost use Rattle.jq_session.specs.laws.Histories.{FollowsErrors, FollowsOutput, IsAlwaysRight, StandsForPresentInputs, StartsNoMore};
+ghost use Rattle.jq_session.specs.laws.Moves.{HalvesAreMoves, MovesHaveHalves};
 ghost use Rattle.jq_session.specs.laws.Plans.{PlansAreByTheTree};
 
 use jq_fold_steps::laws::a_compiled_fold_comes_after_the_prelude;
@@ -20,6 +21,13 @@ pub fn a_session_stands_for_its_present_inputs()
 pub fn splices_lead_to_what_is_written()
     ensures output { FollowsOutput }
     ensures errors { FollowsErrors }
+{}
+
+/// A move that the definition accepts is a removal and then an insertion, and each two such edits are a move.
+#[tactic(auto, using(crate::proofs::Moving::moves_have_halves, crate::proofs::Moving::halves_are_moves))]
+pub fn a_move_is_a_removal_and_an_insertion()
+    ensures halves { MovesHaveHalves }
+    ensures moves { HalvesAreMoves }
 {}
 
 /// The plan of a session is by the options, the filter's tree and the inputs on which it runs.

@@ -73,7 +73,7 @@ returns-in_err-follow_move-clause-started c =
     let a = starts_in c.args.self.now.starts in
     let b = starts_in c.follow_move.new.self.starts in
     let rises =
-        subst (λ (vs : List Val). Rises a b (run_count state.mode state.job (map view vs) + run_count state.mode state.job (map view inputs))) c.deref-5.ensures.value c.in_err-follow_move.ensures.rises in
+    subst (λ (vs : List Val). Rises a b (run_count state.mode state.job (map view vs) + run_count state.mode state.job (map view inputs))) c.deref-5.ensures.value c.in_err-follow_move.ensures.rises in
     started_whole c.args.k c.args.l state (over state (map view inputs)) v old others inputs a b refl m refl rises
 
 pub returns-clause-moved : goal.returns-clause-moved
@@ -136,5 +136,5 @@ returns-clause-started c =
     let a = starts_in c.args.self.now.starts in
     let b = starts_in c.follow_move.new.self.starts in
     let rises =
-        subst (λ (vs : List Val). Rises a b (run_count state.mode state.job (map view vs) + run_count state.mode state.job (map view inputs))) c.deref-5.ensures.value c.in_ok-follow_move.ensures.rises in
+    subst (λ (vs : List Val). Rises a b (run_count state.mode state.job (map view vs) + run_count state.mode state.job (map view inputs))) c.deref-5.ensures.value c.in_ok-follow_move.ensures.rises in
     started_whole c.args.k c.args.l state (over state (map view inputs)) v old others inputs a b refl m refl rises
