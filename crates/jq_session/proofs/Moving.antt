@@ -4,13 +4,13 @@ use Rattle.std.specs.Prelude.{MatchResult, slice_get}
 use Rattle.std.proofs.lemmas.Bool.{lt-ltb, le-ltb}
 use Rattle.std.proofs.lemmas.List.{length-map}
 use Rattle.std.proofs.lemmas.List.Edits.{length-insert, length-remove}
-use Rattle.std.proofs.lemmas.Option.{slice_get-map, slice_get_past, slice_get_read, slice_get_within}
+use Rattle.std.proofs.lemmas.Option.{slice_get-map, slice_get_read, slice_get_within}
 use Rattle.std.specs.List as list
 use Rattle.std.specs.Option.{option_map}
 use Rattle.jv_meaning.specs.Value.{Value}
 use Rattle.jv_data.specs.View.{view}
 use Rattle.jv_data.specs.declared.values.Val.{Val}
-use Rattle.jq_pages.specs.Edits.{Edit, Reason, edited, insert, remove, most_inputs, no_place}
+use Rattle.jq_pages.specs.Edits.{Edit, Reason, edited, insert, remove, most_inputs}
 use Rattle.jq_pages.specs.Folds.{Rises}
 use Rattle.jq_pages.specs.Moves.{moved, moved_input}
 use Rattle.jq_stream.specs.Present.{run_count}
@@ -23,14 +23,6 @@ use Rattle.jq_session.proofs.Inputs.{ok_in}
 use Rattle.jq_session.proofs.Lists.{joined, joined_inserted, joined_removed}
 
 -- ---- the places
-
-pub nowhere : (k l : ℕ) (s : State) → length s.inputs ≤ k → after_move k l s ≡ Err no_place
-nowhere k l s past = rw (slice_get_past s.inputs k past)
-
-pub not_there : (k l : ℕ) (v : Value) (s : State) → slice_get s.inputs k ≡ Some v → k < length s.inputs → length s.inputs ≤ l → after_move k l s ≡ Err no_place
-not_there k l v s there below past =
-    let one = length-remove s.inputs k below in
-    rw (there, lt-ltb (length (list.remove s.inputs k)) l (omega (arith, one, past)))
 
 moved_there : (k l : ℕ) (v : Value) (s : State) → slice_get s.inputs k ≡ Some v → k < length s.inputs → l < length s.inputs → length s.inputs ≤ most_inputs
     → after_move k l s ≡ Ok (over s (list.insert (list.remove s.inputs k) l v))
