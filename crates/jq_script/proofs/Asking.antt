@@ -9,7 +9,7 @@ use Rattle.std.specs.Str.Parse.{digits_value}
 use Rattle.std.proofs.lemmas.Bool.{ne_eqb, le-ltb, cond-false}
 use Rattle.std.proofs.lemmas.List.Elements.{All-head, All-tail}
 use Rattle.std.proofs.lemmas.Str.Parse.{IsNumeralModel, numerals_by_value, digit_at}
-use Rattle.jq_script.specs.Requests.{Parts, around_space, with_byte, unknown, Change, change_by, change_at, place_of, request_of, request_by, command, word_alone, line_limit}
+use Rattle.jq_script.specs.Requests.{Parts, around_space, with_byte, unknown, Change, change_by, change_at, place_of, request, instruction_of, instruction_by, instruction_with, word_alone, line_limit}
 
 abbrev pub HasNoSpace : List ℕ → Type 0
 HasNoSpace bytes = All (λ b. b ≢ 32) bytes
@@ -32,15 +32,15 @@ first_space (b ∷ bs) rest h =
 
 -- ---- a line
 
-pub asked : (line word rest : List ℕ) → length line ≤ line_limit → line ≡ word ++ 32 ∷ rest → HasNoSpace word → request_of line ≡ command word rest
+pub asked : (line word rest : List ℕ) → length line ≤ line_limit → line ≡ word ++ 32 ∷ rest → HasNoSpace word → instruction_of line ≡ instruction_with word rest
 asked line word rest small e clean =
-    cond-false (nat_lt line_limit (length line)) unknown (request_by line (around_space line)) (le-ltb line_limit (length line) small)
-    ∙ ap (request_by line) (ap around_space e ∙ first_space word rest clean)
+    cond-false (nat_lt line_limit (length line)) (request unknown) (instruction_by line (around_space line)) (le-ltb line_limit (length line) small)
+    ∙ ap (instruction_by line) (ap around_space e ∙ first_space word rest clean)
 
-pub asked_alone : (line : List ℕ) → length line ≤ line_limit → HasNoSpace line → request_of line ≡ word_alone line
+pub asked_alone : (line : List ℕ) → length line ≤ line_limit → HasNoSpace line → instruction_of line ≡ request (word_alone line)
 asked_alone line small clean =
-    cond-false (nat_lt line_limit (length line)) unknown (request_by line (around_space line)) (le-ltb line_limit (length line) small)
-    ∙ ap (request_by line) (no_space line clean)
+    cond-false (nat_lt line_limit (length line)) (request unknown) (instruction_by line (around_space line)) (le-ltb line_limit (length line) small)
+    ∙ ap (instruction_by line) (no_space line clean)
 
 -- ---- a number and a text
 

@@ -14,13 +14,17 @@ use Rattle.jq_pages.specs.Edits.{Edit, Reason, full, no_place}
 use Rattle.jq_pages.specs.Edits as edits
 use Rattle.jq_pages.specs.Splices.{IsSplice}
 use Rattle.jq_pages.specs.declared.splices.Splice.{Splice}
-use Rattle.jq_session.specs.Splices.{Follows}
-use Rattle.jq_session.specs.States.{Point, State, after, outcome, point}
+use Rattle.jq_syntax.specs.Chosen.{Chosen}
+use Rattle.jq_syntax.specs.declared.faults.CompileFault.{CompileFault}
+use Rattle.jq_syntax.specs.declared.faults.CompileFault.TheVariants as fault
+use Rattle.jq_stream.specs.declared.filters.Filter.{Filter}
+use Rattle.jq_session.specs.Splices.{Follows, FollowsFilter}
+use Rattle.jq_session.specs.States.{State, after, outcome, refiltered}
 use Rattle.jq_session.specs.declared.splices.Follow.{Follow}
 use Rattle.jq_script.specs.Answers.{answer_line, changes, ok_answer, refused_answer, spaced, splice_answer}
-use Rattle.jq_script.specs.Requests.{Change, Request, change, remove, show, errors, status, unknown, request_of}
-use Rattle.jq_script.specs.Script.{AreAnswers, IsAnswer, IsTurn, Turn, bad_text, change_turn, edit_of, edit_turn, if_null_fits, number_of, refused, text_value, told, turn, value_turn}
-use Rattle.jq_script.specs.laws.Clients.{AreShort, Client, IsShort, after_splice, changed, client_at, come, heard, heard_by, hears, number, past, unheard, unheard_by, up_to}
+use Rattle.jq_script.specs.Requests.{Change, Request, change, remove, show, errors, status, unknown, Instruction, request, filter, instruction_of}
+use Rattle.jq_script.specs.Script.{AreAnswers, IsAnswer, IsFilterTurn, IsTurn, IsTurnOf, Point, Turn, bad_text, bad_token, change_turn, edit_of, edit_turn, fault_number, faulty, filter_turn, if_null_fits, no_memory, no_text, number_of, point, refused, taken, text_value, told, turn, value_turn, without_memory}
+use Rattle.jq_script.specs.laws.Clients.{AreShort, Client, IsShort, after_pair, after_splice, changed, client_at, come, heard, heard_by, heard_pair, hears, number, past, unheard, unheard_by, up_to}
 
 -- ---- bytes up to a byte
 
@@ -143,7 +147,9 @@ reads_line : (s : State) (word : List ℕ) (n : ℕ) → Lacks 32 word → n < 1
 reads_line s word n clean small kept left = λ others.
     let parts = line_parts word n others in (
       heard_parts (answer_line word n ++ others) word (decimal n ++ 10 ∷ others) (client_at s) parts clean ∙ kept (decimal n ++ 10 ∷ others),
-      unheard_parts (answer_line word n ++ others) word (decimal n ++ 10 ∷ others) parts clean ∙ left (decimal n ++ 10 ∷ others) ∙ past_decimal 10 n others newline small,
+      unheard_parts (answer_line word n ++ others) word (decimal n ++ 10 ∷ others) parts clean
+          ∙ left (decimal n ++ 10 ∷ others)
+          ∙ past_decimal 10 n others newline small,
     )
 
 -- a count of bytes, and these bytes
@@ -159,34 +165,48 @@ reads_bytes s word bytes clean small kept left = λ others.
           ∙ drop-append_seam bytes others,
     )
 
+-- ---- pairs of splices
+
 abbrev having : (out err : List ℕ) → Client
 having out err = record { output = out; errors = err }
 
--- the line of an edit, and its splices
-reads_edit : (edit : Edit) (old new : State) (f : Follow) → Follows f edit old new → IsShort old → IsShort new → Reads old new (ok_answer (outcome new).status ++ changes f)
-reads_edit edit old new f follows a b = λ others.
-    let n = (outcome new).status in
-    let ok = codes "ok" in
-    let out = small_splice f.out (outcome old).output (outcome new).output follows.out a.output b.output in
-    let err = small_splice f.err (outcome old).errors (outcome new).errors follows.err a.errors b.errors in
+-- both splices of what was made, which led from one state to another
+record IsPair (f : Follow) (old new : State) : Type 0 where
+  out : IsSplice f.out (outcome old).output (outcome new).output
+  err : IsSplice f.err (outcome old).errors (outcome new).errors
+
+-- The client reads these splices, whatever follows them, and has what the state has to which they lead.
+abbrev ReadsPair : (old new : State) → (bytes : List ℕ) → Type 0
+ReadsPair old new bytes = (others : List ℕ) → (heard_pair (bytes ++ others) (client_at old) ≡ client_at new) × (after_pair (bytes ++ others) ≡ others)
+
+reads_pair : (f : Follow) (old new : State) → IsPair f old new → IsShort old → IsShort new → ReadsPair old new (changes f)
+reads_pair f old new is a b = λ others.
+    let out = small_splice f.out (outcome old).output (outcome new).output is.out a.output b.output in
+    let err = small_splice f.err (outcome old).errors (outcome new).errors is.err a.errors b.errors in
     let second = splice_answer (codes "err") f.err ++ others in
-    let first = codes "out" ++ 32 ∷ told_splice f.out second in
-    let told = decimal n ++ 10 ∷ first in
-    let bytes = ok_answer n ++ changes f in
-    let parts : bytes ++ others ≡ ok ++ 32 ∷ told =
-    append_assoc (ok_answer n) (changes f) others
-    ∙ line_parts ok n (changes f ++ others)
-    ∙ ap (λ l. ok ++ 32 ∷ (decimal n ++ 10 ∷ l)) (append_assoc (splice_answer (codes "out") f.out) (splice_answer (codes "err") f.err) others ∙ splice_parts (codes "out") f.out second) in
-    let at_out : past 32 (past 10 told) ≡ told_splice f.out second =
-    ap (past 32) (past_decimal 10 n first newline b.status) ∙ past_of 32 (codes "out") (told_splice f.out second) (refl, (refl, (refl, tt))) in
-    let at_err : past 32 (after_splice (past 32 (past 10 told))) ≡ told_splice f.err others =
+    let parts : changes f ++ others ≡ codes "out" ++ 32 ∷ told_splice f.out second =
+    append_assoc (splice_answer (codes "out") f.out) (splice_answer (codes "err") f.err) others ∙ splice_parts (codes "out") f.out second in
+    let at_out : past 32 (changes f ++ others) ≡ told_splice f.out second =
+    ap (past 32) parts ∙ past_of 32 (codes "out") (told_splice f.out second) (refl, (refl, (refl, tt))) in
+    let at_err : past 32 (after_splice (past 32 (changes f ++ others))) ≡ told_splice f.err others =
     ap (λ l. past 32 (after_splice l)) at_out
     ∙ ap (past 32) (after_splice_of f.out second out ∙ splice_parts (codes "err") f.err others)
     ∙ past_of 32 (codes "err") (told_splice f.err others) (refl, (refl, (refl, tt))) in (
-      heard_parts (bytes ++ others) ok told (client_at old) parts (refl, (refl, tt))
-          ∙ ap₂ (λ l m. having (changed l (outcome old).output) (changed m (outcome old).errors)) at_out at_err
-          ∙ ap₂ having (changed_of f.out (outcome old).output second out ∙ follows.out.turns) (changed_of f.err (outcome old).errors others err ∙ follows.err.turns),
-      unheard_parts (bytes ++ others) ok told parts (refl, (refl, tt)) ∙ ap after_splice at_err ∙ after_splice_of f.err others err,
+      ap₂ (λ l m. having (changed l (outcome old).output) (changed m (outcome old).errors)) at_out at_err
+          ∙ ap₂ having (changed_of f.out (outcome old).output second out ∙ is.out.turns) (changed_of f.err (outcome old).errors others err ∙ is.err.turns),
+      ap after_splice at_err ∙ after_splice_of f.err others err,
+    )
+
+-- the line of what was made, and its splices
+reads_ok : (old new : State) (n : ℕ) (told : List ℕ) → n < 10 ^ 64 → ReadsPair old new told → Reads old new (ok_answer n ++ told)
+reads_ok old new n told small reads = λ others.
+    let ok = codes "ok" in
+    let bytes = ok_answer n ++ told in
+    let after_word = decimal n ++ 10 ∷ (told ++ others) in
+    let parts : bytes ++ others ≡ ok ++ 32 ∷ after_word = append_assoc (ok_answer n) told others ∙ line_parts ok n (told ++ others) in
+    let at : past 10 after_word ≡ told ++ others = past_decimal 10 n (told ++ others) newline small in (
+      heard_parts (bytes ++ others) ok after_word (client_at old) parts (refl, (refl, tt)) ∙ ap (λ l. heard_pair l (client_at old)) at ∙ (reads others).0,
+      unheard_parts (bytes ++ others) ok after_word parts (refl, (refl, tt)) ∙ ap after_pair at ∙ (reads others).1,
     )
 
 -- ---- the answer to a request
@@ -201,9 +221,18 @@ small_reason : (reason : Reason) → number_of reason < 10 ^ 64
 small_reason no_place = lit< tt
 small_reason full = lit< tt
 
+reads_made : (old new : State) (bytes told more : List ℕ) → bytes ≡ ok_answer (outcome new).status ++ more → more ≡ told → IsShort new → ReadsPair old new told
+    → Reads old new bytes
+reads_made old new bytes told more e is b reads =
+    same_bytes old new (ok_answer (outcome new).status ++ told) bytes (e ∙ ap (λ l. ok_answer (outcome new).status ++ l) is)
+    (reads_ok old new (outcome new).status told b.status reads)
+
 after_edit : (s : State) (edit : Edit) (r : Result State Reason) (bytes : List ℕ) → IsAnswer true s (edit_turn s edit r) bytes → IsShort s → IsShort (edit_turn s edit r).state
     → Reads s (edit_turn s edit r).state bytes
-after_edit s edit (Ok new) bytes h a b = same_bytes s new (ok_answer (outcome new).status ++ changes h.0) bytes h.2 (reads_edit edit s new h.0 h.1 a b)
+after_edit s edit (Ok new) bytes h a b =
+    let told = h.1 in
+    let is : IsPair told.0 s new = record { out = told.1.out; err = told.1.err } in
+    reads_made s new bytes (changes told.0) h.0 h.2 told.2 b (reads_pair told.0 s new is a b)
 after_edit s edit (Err reason) bytes h a b = same_bytes s s (refused_answer (number_of reason)) bytes h (reads_refusal s (number_of reason) (small_reason reason))
 
 after_text : (s : State) (c : Change) (r : Result Value Fault) (bytes : List ℕ) → IsAnswer true s (value_turn s c r) bytes → IsShort s → IsShort (value_turn s c r).state
@@ -216,7 +245,8 @@ after_change : (s : State) (c : Change) (r : Result State Reason) (text bytes : 
 after_change s c (Ok fits) text bytes h a b = after_text s c (text_value text) bytes h a b
 after_change s c (Err reason) text bytes h a b = same_bytes s s (refused_answer (number_of reason)) bytes h (reads_refusal s (number_of reason) (small_reason reason))
 
-after_request : (request : Request) (s : State) (bytes : List ℕ) → IsAnswer true s (turn request s) bytes → IsShort s → IsShort (turn request s).state → Reads s (turn request s).state bytes
+after_request : (r : Request) (s : State) (bytes : List ℕ) → IsAnswer true s (turn r s) bytes → IsShort s → IsShort (turn r s).state
+    → Reads s (turn r s).state bytes
 after_request (change c text) s bytes h a b = after_change s c (if_null_fits c s) text bytes h a b
 after_request (remove k) s bytes h a b = after_edit s (edits.remove k) (after (edits.remove k) s) bytes h a b
 after_request show s bytes h a b =
@@ -228,11 +258,47 @@ after_request status s bytes h a b =
     (reads_line s (codes "status") (outcome s).status (refl, (refl, (refl, (refl, (refl, (refl, tt)))))) a.status (λ t. refl) (λ t. refl))
 after_request unknown s bytes h a b = same_bytes s s (refused_answer 0) bytes h (reads_refusal s 0 (lit< tt))
 
-after_turn : (request : Request) (s : State) (t : Turn) (bytes : List ℕ) → IsTurn request s t → IsAnswer true s t bytes → IsShort s → IsShort t.state → Reads s t.state bytes
-after_turn request s t bytes (inl e) h a b =
-    subst (λ u. IsAnswer true s u bytes → IsShort u.state → Reads s u.state bytes) (sym e) (λ h b. after_request request s bytes h a b) h b
-after_turn request s t bytes (inr e) h a b =
-    subst (λ u. IsAnswer true s u bytes → Reads s u.state bytes) (sym e.1) (λ h. same_bytes s s (refused_answer 40) bytes h (reads_refusal s 40 (lit< tt))) h
+-- what changes nothing is refused with a small number
+after_refusal : (s : State) (t : Turn) (n : ℕ) (bytes : List ℕ) → n < 10 ^ 64 → t ≡ refused s n → IsAnswer true s t bytes → Reads s t.state bytes
+after_refusal s t n bytes small e h =
+    subst (λ u. IsAnswer true s u bytes → Reads s u.state bytes) (sym e) (λ h. same_bytes s s (refused_answer n) bytes h (reads_refusal s n small)) h
+
+after_turn : (r : Request) (s : State) (t : Turn) (bytes : List ℕ) → IsTurn r s t → IsAnswer true s t bytes → IsShort s → IsShort t.state
+    → Reads s t.state bytes
+after_turn r s t bytes (inl e) h a b =
+    subst (λ u. IsAnswer true s u bytes → IsShort u.state → Reads s u.state bytes) (sym e) (λ h b. after_request r s bytes h a b) h b
+after_turn r s t bytes (inr e) h a b = after_refusal s t no_memory bytes (lit< tt) e.1 h
+
+-- ---- the answer to another filter
+
+small_fault : (f : CompileFault) → fault_number f < 10 ^ 64
+small_fault (fault.Lex at) = lit< tt
+small_fault fault.Syntax = lit< tt
+small_fault fault.TooManyTokens = lit< tt
+small_fault fault.TooNested = lit< tt
+small_fault (fault.Undefined name) = lit< tt
+small_fault fault.InputsPlace = lit< tt
+small_fault fault.InputsNeedNull = lit< tt
+small_fault fault.NoMemory = lit< tt
+
+after_taking : (s : State) (f : Filter) (bytes : List ℕ) → IsAnswer true s (filter_turn s f) bytes → IsShort s → IsShort (refiltered f s) → Reads s (refiltered f s) bytes
+after_taking s f bytes h a b =
+    let told = h.1 in
+    let is : IsPair told.0 s (refiltered f s) = record { out = told.1.out.splice; err = told.1.err.splice } in
+    reads_made s (refiltered f s) bytes (changes told.0) h.0 h.2 told.2 b (reads_pair told.0 s (refiltered f s) is a b)
+
+after_filter : (o : Chosen) (text : List ℕ) (s : State) (t : Turn) (m n : ℕ) (bytes : List ℕ) → IsFilterTurn o text s t m n → IsAnswer true s t bytes → IsShort s → IsShort t.state
+    → Reads s t.state bytes
+after_filter o text s t m n bytes (taken f is e first) h a b =
+    subst (λ u. IsAnswer true s u bytes → IsShort u.state → Reads s u.state bytes) (sym e) (λ h b. after_taking s f bytes h a b) h b
+after_filter o text s t m n bytes (without_memory f is e first) h a b = after_refusal s t no_memory bytes (lit< tt) e h
+after_filter o text s t m n bytes (faulty f is refusal e same) h a b = after_refusal s t (fault_number f) bytes (small_fault f) e h
+after_filter o text s t m n bytes (no_text not e same) h a b = after_refusal s t bad_token bytes (lit< tt) e h
+
+after_instruction : (o : Chosen) (i : Instruction) (s : State) (t : Turn) (m n : ℕ) (bytes : List ℕ) → IsTurnOf o i s t m n → IsAnswer true s t bytes → IsShort s
+    → IsShort t.state → Reads s t.state bytes
+after_instruction o (request r) s t m n bytes turns h a b = after_turn r s t bytes turns.0 h a b
+after_instruction o (filter text) s t m n bytes turns h a b = after_filter o text s t m n bytes turns h a b
 
 -- ---- all answers
 
@@ -245,9 +311,10 @@ keeps_up (line ∷ lines) first last answers h short =
     let bytes = h.2 in
     let others = h.3 in
     let step = h.4 in
-    let mid = point t.state n in
-    let one = after_turn (request_of line) first.state t bytes step.turns step.answers (short [] (line ∷ lines) [] first refl (refl, refl))
-    (short (line ∷ []) lines bytes mid refl (t, n, bytes, [], step, sym (append-nil bytes), (refl, refl))) others in
+    let mid = point first.options t.state n in
+    let here = short [] (line ∷ lines) [] first refl (refl, refl) in
+    let there = short (line ∷ []) lines bytes mid refl (t, n, bytes, [], step, sym (append-nil bytes), (refl, refl)) in
+    let one = after_instruction first.options (instruction_of line) first.state t first.starts n bytes step.turns step.answers here there others in
     ap₂ (hears lines) (ap unheard h.5 ∙ one.1) (ap (λ l. heard l (client_at first.state)) h.5 ∙ one.0)
     ∙ keeps_up lines mid last others h.6
     (λ some rest part p e a. short (line ∷ some) rest (bytes ++ part) p (ap (λ l. line ∷ l) e) (t, n, bytes, part, step, refl, a))

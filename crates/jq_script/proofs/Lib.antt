@@ -6,3 +6,4 @@ pub mod Turning
 pub mod Starting
 pub mod Replying
 pub mod Hearing
+pub mod Hosting

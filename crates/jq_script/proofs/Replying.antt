@@ -1,21 +1,29 @@
 -- The reply to a request.
-use Rattle.std.proofs.Common.{◌≡◌, ◌++◌, ℕ, Bool, true, false, List, Result, Ok, Err, IsOk, OnOk, OnErr, IfOk, IfErr, refl, sym, ap, ◌∙◌, inl, inr}
+use Rattle.std.proofs.Common.{◌≡◌, ◌++◌, ℕ, Bool, true, false, List, Result, Ok, Err, IsOk, OnOk, OnErr, IfOk, IfErr, refl, sym, ap, ◌∙◌, subst, inl, inr}
+use Rattle.std.specs.Str.{IsUtf8, chars}
 use Rattle.jv_meaning.specs.Value.{Value}
+use Rattle.jv_data.specs.declared.failures.NoMemory.{NoMemory}
 use Rattle.jv_text.specs.Reading.{FaultIs}
 use Rattle.jv_text.specs.declared.faults.Fault.{Fault}
 use Rattle.jv_text.specs.declared.faults.Fault.TheVariants as fault
 use Rattle.jq_pages.specs.Edits.{Edit, Reason}
 use Rattle.jq_pages.specs.Edits as edits
+use Rattle.jq_syntax.specs.Chosen.{setting}
+use Rattle.jq_syntax.specs.Compiled.{IsRefusal as IsFilterRefusal}
+use Rattle.jq_syntax.specs.declared.faults.CompileFault.{CompileFault}
+use Rattle.jq_syntax.specs.declared.faults.CompileFault.TheVariants as compile_fault
+use Rattle.jq_stream.specs.declared.filters.Filter.{Filter}
 use Rattle.jq_session.specs.Sessions.{IsRefusal}
-use Rattle.jq_session.specs.Splices.{Follows}
-use Rattle.jq_session.specs.States.{State, after}
+use Rattle.jq_session.specs.Splices.{Follows, FollowsFilter}
+use Rattle.jq_session.specs.Starts.{IsFirstRun}
+use Rattle.jq_session.specs.States.{State, after, outcome, refiltered}
 use Rattle.jq_session.specs.declared.refusals.Refusal.{Refusal}
 use Rattle.jq_session.specs.declared.refusals.Refusal.TheVariants as refusal
 use Rattle.jq_session.specs.declared.splices.Follow.{Follow}
 use Rattle.jq_script.specs.Answers.{ok_answer, changes, refused_answer}
 use Rattle.jq_script.specs.Requests.{Change, Request, change, remove, show, errors, status, unknown}
-use Rattle.jq_script.specs.Script.{IsAnswer, MayLackMemory, bad_text, change_turn, edit_of, edit_turn, if_null_fits, number_of, refused, text_value, told, turn, value_turn}
-use Rattle.jq_script.specs.private.Replies.{IsObstacle, IsReplied, made_answer, number_in, reply_of, unread_as}
+use Rattle.jq_script.specs.Script.{IsAnswer, IsFilterText, MayLackMemory, Point, bad_text, bad_token, change_turn, edit_of, edit_turn, fault_number, faulty, filter_turn, if_null_fits, no_memory, no_text, number_of, refused, taken, text_value, told, turn, value_turn, without_memory}
+use Rattle.jq_script.specs.private.Replies.{IsFilterReplied, IsObstacle, IsReplied, filter_reply, made_answer, number_in, reply_of, unread_as}
 use Rattle.jq_script.specs.declared.replies.Refused.{Refused}
 use Rattle.jq_script.specs.declared.replies.Refused.TheVariants as refused_type
 use Rattle.jq_script.specs.declared.replies.Reply.TheVariants as reply
@@ -61,7 +69,7 @@ not_known s = refused_for unknown s s refused_type.Unknown 0 refl refl refl
 
 edit_answer : (follow : Bool) (edit : Edit) (old new : State) (f : Follow) → Follows f edit old new → IsAnswer follow old (edit_turn old edit (Ok new)) (made_answer follow f)
 edit_answer false edit old new f follows = ap ok_answer follows.status
-edit_answer true edit old new f follows = (f, follows, ap (λ n. ok_answer n ++ changes f) follows.status)
+edit_answer true edit old new f follows = (changes f, (f, follows, refl), ap (λ n. ok_answer n ++ changes f) follows.status)
 
 edit_refused : (request : Request) (old new : State) (edit : Edit) (r : Refusal) → turn request old ≡ edit_turn old edit (after edit old)
     → (IsOk (after edit old) → MayLackMemory request old) → IsRefusal r (after edit old) → new ≡ old → IsReplied request old new (reply_of (Err r))
@@ -113,3 +121,51 @@ pub changed : (c : Change) (text : List ℕ) (old new : State) (v : Value) (e : 
     → IsReplied (change c text) old new (reply_of e)
 changed c text old new v e fits is edited follows refused unchanged =
     edit_replied (change c text) old new (edit_of c old v) e (fitting c text old (if_null_fits c old) fits ∙ ap (value_turn old c) is) (λ ok. fits) edited follows refused unchanged
+
+-- ---- another filter
+
+filter_answer : (follow : Bool) (old : State) (f : Filter) (w : Follow) → FollowsFilter w old (refiltered f old) → IsAnswer follow old (filter_turn old f) (made_answer follow w)
+filter_answer false old f w follows = ap ok_answer follows.status
+filter_answer true old f w follows = (changes w, (w, follows, refl), ap (λ n. ok_answer n ++ changes w) follows.status)
+
+filter_taken : (text : List ℕ) (old new : Point) (f : Filter) (w : Follow) → IsFilterText old.options text f → new.state ≡ refiltered f old.state → FollowsFilter w old.state new.state
+    → IsFirstRun (refiltered f old.state) old.starts new.starts → IsFilterReplied text old new (reply.Made w)
+filter_taken text old new f w is e follows first = record {
+  turn = filter_turn old.state f;
+  turns = taken f is refl first;
+  leads = sym e;
+  answers = λ follow. filter_answer follow old.state f w (subst (FollowsFilter w old.state) e follows);
+}
+
+filter_lacks : (text : List ℕ) (old new : Point) (f : Filter) → IsFilterText old.options text f → new.state ≡ old.state → IsFirstRun (refiltered f old.state) old.starts new.starts
+    → IsFilterReplied text old new (reply.Refused refused_type.NoMemory)
+filter_lacks text old new f is same first = record {
+  turn = refused old.state no_memory;
+  turns = without_memory f is refl first;
+  leads = sym same;
+  answers = λ follow. same_answer follow old.state (refused_answer no_memory);
+}
+
+-- the answer of a session that ran it
+pub filter_replied : (text : List ℕ) (old new : Point) (f : Filter) (e : Result Follow NoMemory) → IsFilterText old.options text f → OnOk e (new.state ≡ refiltered f old.state)
+    → IfOk e (λ w. FollowsFilter w old.state new.state) → OnErr e (new.state ≡ old.state) → IsFirstRun (refiltered f old.state) old.starts new.starts
+    → IsFilterReplied text old new (filter_reply e)
+filter_replied text old new f (Ok w) is leads follows unchanged first = filter_taken text old new f w is leads follows first
+filter_replied text old new f (Err e) is leads follows unchanged first = filter_lacks text old new f is unchanged first
+
+pub filter_refused : (text : List ℕ) (p : Point) (f : CompileFault) → IsUtf8 text → IsFilterRefusal (chars text) (setting p.options) f
+    → IsFilterReplied text p p (reply.Refused (refused_type.Filter f))
+filter_refused text p f is h = record {
+  turn = refused p.state (fault_number f);
+  turns = faulty f is h refl refl;
+  leads = refl;
+  answers = λ follow. same_answer follow p.state (refused_answer (fault_number f));
+}
+
+pub filter_unread : (text : List ℕ) (p : Point) (at : ℕ) → ¬ (IsUtf8 text) → IsFilterReplied text p p (reply.Refused (refused_type.Filter (compile_fault.Lex at)))
+filter_unread text p at not = record {
+  turn = refused p.state bad_token;
+  turns = no_text not refl refl;
+  leads = refl;
+  answers = λ follow. same_answer follow p.state (refused_answer bad_token);
+}

@@ -8,8 +8,8 @@ use Rattle.std.specs.Str.Parse.{digits_value}
 use Rattle.std.proofs.lemmas.Bool.{and_parts, eqb-true, eq-eqb, both_ways, not-true, false≢true}
 use Rattle.std.proofs.lemmas.List.Sums.{AllPass-from_list_all}
 use Rattle.std.proofs.lemmas.Slice.Eq.{bytes_eq-Decides}
-use Rattle.jq_script.specs.Requests.{Parts, Request, Change, change, remove, show, errors, status, unknown, insert, replace, append, place_of, is_place, line_limit, request_of, request_by, around_space, with_byte, command, word_alone, change_by, change_at, remove_at}
-use Rattle.jq_script.specs.laws.Table.{AsksFor, Writes, parted}
+use Rattle.jq_script.specs.Requests.{Parts, Request, Change, change, remove, show, errors, status, unknown, insert, replace, append, Instruction, request, filter, place_of, is_place, line_limit, instruction_of, instruction_by, instruction_with, around_space, with_byte, command, word_alone, change_by, change_at, remove_at}
+use Rattle.jq_script.specs.laws.Table.{AsksFor, Gives, Writes, parted}
 use Rattle.jq_script.proofs.Asking.{HasNoSpace, asked, asked_alone, changing_by}
 
 -- ---- the bytes before and after a space
@@ -79,19 +79,38 @@ told_command line word rest is =
     (λ e. removing rest line (place_of rest) refl (begun line word rest (codes "remove") is e))
     (tested (bytes_eq word (codes "append")) (change append rest) unknown line (λ e. inr (begun line word rest (codes "append") is e)) (inl refl))))
 
-told_in : (line : List ℕ) (found : Option Parts) → IsAt line found → IsTold (request_by line found) line
-told_in line None at = told_alone line
-told_in line (Some p) at = told_command line p.word p.rest at
+-- ---- a line that gives an instruction is in the table
 
-told : (line : List ℕ) → length line ≤ line_limit → IsTold (request_of line) line
-told line small = tested (nat_lt line_limit (length line)) unknown (request_by line (around_space line)) line (λ e. inl refl) (told_in line (around_space line) (parts_at line))
+abbrev IsGiven : Instruction → List ℕ → Type 0
+IsGiven i line = (i ≡ request unknown) ⊎ Gives i line
 
-known : (line : List ℕ) (r : Request) → r ≢ unknown → IsTold r line → AsksFor r line
-known line r other (inl e) = absurd (other e)
-known line r other (inr h) = h
+given_either : (t : Bool) (a b : Instruction) (line : List ℕ) → (t ≡ true → IsGiven a line) → IsGiven b line → IsGiven (cond t a b) line
+given_either true a b line here later = here refl
+given_either false a b line here later = later
 
-pub asks : (line : List ℕ) (r : Request) → length line ≤ line_limit → r ≢ unknown → request_of line ≡ r → AsksFor r line
-asks line r small other e = known line r other (subst (λ x. IsTold x line) e (told line small))
+given_request : (r : Request) (line : List ℕ) → IsTold r line → IsGiven (request r) line
+given_request r line (inl e) = inl (ap request e)
+given_request r line (inr h) = inr h
+
+given_with : (line word rest : List ℕ) → line ≡ parted word rest → IsGiven (instruction_with word rest) line
+given_with line word rest is =
+    given_either (bytes_eq word (codes "filter")) (filter rest) (request (command word rest)) line (λ e. inr (begun line word rest (codes "filter") is e))
+    (given_request (command word rest) line (told_command line word rest is))
+
+given_in : (line : List ℕ) (found : Option Parts) → IsAt line found → IsGiven (instruction_by line found) line
+given_in line None at = given_request (word_alone line) line (told_alone line)
+given_in line (Some p) at = given_with line p.word p.rest at
+
+given : (line : List ℕ) → length line ≤ line_limit → IsGiven (instruction_of line) line
+given line small =
+    given_either (nat_lt line_limit (length line)) (request unknown) (instruction_by line (around_space line)) line (λ e. inl refl) (given_in line (around_space line) (parts_at line))
+
+known : (line : List ℕ) (i : Instruction) → i ≢ request unknown → IsGiven i line → Gives i line
+known line i other (inl e) = absurd (other e)
+known line i other (inr h) = h
+
+pub asks : (line : List ℕ) (i : Instruction) → length line ≤ line_limit → i ≢ request unknown → instruction_of line ≡ i → Gives i line
+asks line i small other e = known line i other (subst (λ x. IsGiven x line) e (given line small))
 
 -- ---- a line in the table is this request
 
@@ -117,17 +136,21 @@ place_spaceless digits k e =
 changing_at : (edit : ℕ → Change) (digits text : List ℕ) (k : ℕ) → Writes digits k → change_by edit (around_space (parted digits text)) ≡ change (edit k) text
 changing_at edit digits text k e = changing_by (parted digits text) digits text (Some k) refl (place_spaceless digits k e) (sym e) edit
 
-alone : (line word : List ℕ) → length line ≤ line_limit → line ≡ word → HasNoSpace word → request_of line ≡ word_alone word
-alone line word small is clean = asked_alone line small (subst HasNoSpace (sym is) clean) ∙ ap word_alone is
+alone : (line word : List ℕ) → length line ≤ line_limit → line ≡ word → HasNoSpace word → instruction_of line ≡ request (word_alone word)
+alone line word small is clean = asked_alone line small (subst HasNoSpace (sym is) clean) ∙ ap (λ w. request (word_alone w)) is
 
-pub asked_for : (line : List ℕ) (r : Request) → length line ≤ line_limit → AsksFor r line → request_of line ≡ r
-asked_for line (change (insert k) text) small h =
-    asked line (codes "insert") (parted h.0 text) small h.2 (spaceless (codes "insert") refl) ∙ changing_at insert h.0 text k h.1
-asked_for line (change (replace k) text) small h =
-    asked line (codes "replace") (parted h.0 text) small h.2 (spaceless (codes "replace") refl) ∙ changing_at replace h.0 text k h.1
-asked_for line (change append text) small h = asked line (codes "append") text small h (spaceless (codes "append") refl)
-asked_for line (remove k) small h = asked line (codes "remove") h.0 small h.2 (spaceless (codes "remove") refl) ∙ ap remove_at h.1
-asked_for line show small h = alone line (codes "show") small h (spaceless (codes "show") refl)
-asked_for line errors small h = alone line (codes "errors") small h (spaceless (codes "errors") refl)
-asked_for line status small h = alone line (codes "status") small h (spaceless (codes "status") refl)
-asked_for line unknown small h = absurd h
+requested : (line : List ℕ) (r : Request) → length line ≤ line_limit → AsksFor r line → instruction_of line ≡ request r
+requested line (change (insert k) text) small h =
+    asked line (codes "insert") (parted h.0 text) small h.2 (spaceless (codes "insert") refl) ∙ ap request (changing_at insert h.0 text k h.1)
+requested line (change (replace k) text) small h =
+    asked line (codes "replace") (parted h.0 text) small h.2 (spaceless (codes "replace") refl) ∙ ap request (changing_at replace h.0 text k h.1)
+requested line (change append text) small h = asked line (codes "append") text small h (spaceless (codes "append") refl)
+requested line (remove k) small h = asked line (codes "remove") h.0 small h.2 (spaceless (codes "remove") refl) ∙ ap (λ o. request (remove_at o)) h.1
+requested line show small h = alone line (codes "show") small h (spaceless (codes "show") refl)
+requested line errors small h = alone line (codes "errors") small h (spaceless (codes "errors") refl)
+requested line status small h = alone line (codes "status") small h (spaceless (codes "status") refl)
+requested line unknown small h = absurd h
+
+pub asked_for : (line : List ℕ) (i : Instruction) → length line ≤ line_limit → Gives i line → instruction_of line ≡ i
+asked_for line (request r) small h = requested line r small h
+asked_for line (filter text) small h = asked line (codes "filter") text small h (spaceless (codes "filter") refl)

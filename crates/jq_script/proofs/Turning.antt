@@ -4,19 +4,18 @@ use Rattle.std.specs.Io.KnownBytes.{Appends}
 use Rattle.std.proofs.KnownBytes.{Appends-nil, Appends-trans}
 use Rattle.jq_devices.proofs.shared.Writing.{first_after, first_longer, first_whole}
 use Rattle.jq_devices.specs.Writing.{AppendsFirst}
-use Rattle.jq_session.specs.States.{Point, point}
 use Rattle.jq_script.specs.Answers.{answer_line}
-use Rattle.jq_script.specs.Requests.{Request, request_of}
-use Rattle.jq_script.specs.Script.{Turn, IsStep, AreAnswers, MayStart}
+use Rattle.jq_script.specs.Requests.{Instruction, request, filter, instruction_of}
+use Rattle.jq_script.specs.Script.{Turn, IsStep, AreAnswers, Point, point}
 use Rattle.jq_script.specs.Serving.{Progress, Answers, AnswersFirst}
-use Rattle.jq_script.specs.private.Replies.{IsReplied, answer_of}
+use Rattle.jq_script.specs.private.Replies.{IsCarriedOut, answer_of}
 use Rattle.jq_script.specs.declared.replies.Reply.{Reply}
 
 -- ---- lines
 
-one_answer : (follow : Bool) (line : List ℕ) (s : Point) (t : Turn) (n : ℕ) (bytes : List ℕ) → IsStep follow (request_of line) s t n bytes
-    → AreAnswers follow (line ∷ []) s bytes (point t.state n)
-one_answer follow line s t n bytes p = (t, n, bytes, [], p, sym (append-nil bytes), (refl, refl))
+one_answer : (follow : Bool) (line : List ℕ) (p : Point) (t : Turn) (n : ℕ) (bytes : List ℕ) → IsStep follow (instruction_of line) p t n bytes
+    → AreAnswers follow (line ∷ []) p bytes (point p.options t.state n)
+one_answer follow line p t n bytes step = (t, n, bytes, [], step, sym (append-nil bytes), (refl, refl))
 
 pub answers_joined : (follow : Bool) (ls ms : List (List ℕ)) (s m e : Point) (a b : List ℕ) → AreAnswers follow ls s a m → AreAnswers follow ms m b e → AreAnswers follow (ls ++ ms) s (a ++ b) e
 answers_joined follow [] ms s m e a b p q =
@@ -29,7 +28,7 @@ answers_joined follow (l ∷ ls) ms s m e a b p q = (
   p.3 ++ b,
   p.4,
   ap (λ x. x ++ b) p.5 ∙ append_assoc p.2 p.3 b,
-  answers_joined follow ls ms (point p.0.state p.1) m e p.3 b p.6 q,
+  answers_joined follow ls ms (point s.options p.0.state p.1) m e p.3 b p.6 q,
 )
 
 pub answered_none : {follow : Bool} → (s : Progress) → Answers follow [] s s
@@ -54,29 +53,39 @@ first_of_answered ls r s p = record { answers = p.answers; are_answers = p.are_a
 
 -- ---- the answer to one line
 
-reply_answers : (follow : Bool) (line : List ℕ) (request : Request) (old new : Point) (r : Reply) → request ≡ request_of line → IsReplied request old.state new.state r
-    → MayStart request old.state old.starts new.starts → AreAnswers follow (line ∷ []) old (answer_of follow r new.state) new
-reply_answers follow line request old new r e replied starts =
-    let step : IsStep follow request old replied.turn new.starts (answer_of follow r new.state) = record { turns = replied.turns; starts = starts; answers = replied.answers follow } in
-    let bytes = answer_of follow r new.state in
-    subst (λ s. AreAnswers follow (line ∷ []) old bytes (point s new.starts)) replied.leads
-    (one_answer follow line old replied.turn new.starts bytes (subst (λ x. IsStep follow x old replied.turn new.starts bytes) e step))
+-- what is known of a reply, as a step
+record Stepped (follow : Bool) (i : Instruction) (old new : Point) (bytes : List ℕ) : Type 0 where
+  turn : Turn
+  leads : turn.state ≡ new.state
+  step : IsStep follow i old turn new.starts bytes
 
-pub line_answered : {follow : Bool} → (line : List ℕ) (request : Request) (old new : Progress) (r : Reply) → request ≡ request_of line
-    → IsReplied request old.point.state new.point.state r → MayStart request old.point.state old.point.starts new.point.starts
-    → Appends old.output new.output (answer_of follow r new.point.state) → Answers follow (line ∷ []) old new
-line_answered {follow} line request old new r e replied starts w = record {
+stepped : (follow : Bool) (i : Instruction) (old new : Point) (r : Reply) → IsCarriedOut i old new r → Stepped follow i old new (answer_of follow r new.state)
+stepped follow (request q) old new r h = record { turn = h.0.turn; leads = h.0.leads; step = record { turns = (h.0.turns, h.1); answers = h.0.answers follow } }
+stepped follow (filter text) old new r h = record { turn = h.turn; leads = h.leads; step = record { turns = h.turns; answers = h.answers follow } }
+
+reply_answers : (follow : Bool) (line : List ℕ) (i : Instruction) (old new : Point) (r : Reply) → i ≡ instruction_of line → new.options ≡ old.options
+    → IsCarriedOut i old new r → AreAnswers follow (line ∷ []) old (answer_of follow r new.state) new
+reply_answers follow line i old new r e same carried =
+    let bytes = answer_of follow r new.state in
+    let s = stepped follow i old new r carried in
+    let step : IsStep follow (instruction_of line) old s.turn new.starts bytes = subst (λ x. IsStep follow x old s.turn new.starts bytes) e s.step in
+    let led : AreAnswers follow (line ∷ []) old bytes (point old.options new.state new.starts) =
+    subst (λ x. AreAnswers follow (line ∷ []) old bytes (point old.options x new.starts)) s.leads (one_answer follow line old s.turn new.starts bytes step) in
+    subst (λ o. AreAnswers follow (line ∷ []) old bytes (point o new.state new.starts)) (sym same) led
+
+pub line_answered : {follow : Bool} → (line : List ℕ) (i : Instruction) (old new : Progress) (r : Reply) → i ≡ instruction_of line → new.point.options ≡ old.point.options
+    → IsCarriedOut i old.point new.point r → Appends old.output new.output (answer_of follow r new.point.state) → Answers follow (line ∷ []) old new
+line_answered {follow} line i old new r e same carried w = record {
   answers = answer_of follow r new.point.state;
-  are_answers = reply_answers follow line request old.point new.point r e replied starts;
+  are_answers = reply_answers follow line i old.point new.point r e same carried;
   written = w;
 }
 
-pub line_first : {follow : Bool} → (line : List ℕ) (request : Request) (old new : Progress) (r : Reply) → request ≡ request_of line
-    → IsReplied request old.point.state new.point.state r → MayStart request old.point.state old.point.starts new.point.starts
-    → AppendsFirst old.output new.output (answer_of follow r new.point.state) → AnswersFirst follow (line ∷ []) old new
-line_first {follow} line request old new r e replied starts w = record {
+pub line_first : {follow : Bool} → (line : List ℕ) (i : Instruction) (old new : Progress) (r : Reply) → i ≡ instruction_of line → new.point.options ≡ old.point.options
+    → IsCarriedOut i old.point new.point r → AppendsFirst old.output new.output (answer_of follow r new.point.state) → AnswersFirst follow (line ∷ []) old new
+line_first {follow} line i old new r e same carried w = record {
   answers = answer_of follow r new.point.state;
-  are_answers = reply_answers follow line request old.point new.point r e replied starts;
+  are_answers = reply_answers follow line i old.point new.point r e same carried;
   written = w;
 }
 

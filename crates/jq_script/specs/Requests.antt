@@ -11,6 +11,7 @@ pub data Change : Type 0 where
   replace : ℕ → Change
   append : Change
 
+-- What is requested of a session with its present filter.
 pub data Request : Type 0 where
   change : Change → (text : List ℕ) → Request
   remove : ℕ → Request
@@ -18,6 +19,11 @@ pub data Request : Type 0 where
   errors : Request
   status : Request
   unknown : Request
+
+-- The instruction of a line: such a request, or another filter.
+pub data Instruction : Type 0 where
+  request : Request → Instruction
+  filter : (text : List ℕ) → Instruction
 
 -- ---- the parts of a line
 
@@ -73,14 +79,20 @@ word_alone word =
     else (if bytes_eq word (codes "status") then status
     else unknown))
 
--- the request of a line by its parts around the first space, if it has a space
-abbrev pub request_by : List ℕ → Option Parts → Request
-request_by line (Some parts) = command parts.word parts.rest
-request_by line None = word_alone line
+-- ---- the instruction
+
+-- a word, exactly one space, and the rest
+abbrev pub instruction_with : (word rest : List ℕ) → Instruction
+instruction_with word rest = if bytes_eq word (codes "filter") then filter rest else request (command word rest)
+
+-- the instruction of a line by its parts around the first space, if it has a space
+abbrev pub instruction_by : List ℕ → Option Parts → Instruction
+instruction_by line (Some parts) = instruction_with parts.word parts.rest
+instruction_by line None = request (word_alone line)
 
 -- the most bytes of a line, its newline not counted
 abbrev pub line_limit : ℕ
 line_limit = 16777216
 
-abbrev pub request_of : List ℕ → Request
-request_of line = if nat_lt line_limit (length line) then unknown else request_by line (around_space line)
+abbrev pub instruction_of : List ℕ → Instruction
+instruction_of line = if nat_lt line_limit (length line) then request unknown else instruction_by line (around_space line)

@@ -1,13 +1,26 @@
 -- What a script reads and writes, and the session that it serves. `follow` says whether `--follow` was given.
-use Rattle.std.specs.Prelude.{◌≡◌, ◌⊎◌, ◌≤◌, ℕ, List, ◌++◌, length, Bool, Option}
+use Rattle.std.specs.Prelude.{◌≡◌, ◌⊎◌, ◌≤◌, ℕ, List, ◌+◌, ◌++◌, length, Bool, Option, Some, None}
 use Rattle.std.specs.Io.KnownBytes.{Appends, Consumes, IsAtEnd}
 use Rattle.jq_devices.specs.Writing.{AppendsFirst, AppendsMore}
 use Rattle.jq_devices.specs.declared.faults.StreamFault.{StreamFault}
 use Rattle.jq_devices.specs.declared.faults.StreamFault.TheVariants.{Read, Write, NoMemory}
 use Rattle.jq_devices.specs.Reading.{IsWhole}
-use Rattle.jq_session.specs.States.{Point}
+use Rattle.jq_starts.specs.Starts.{starts_in}
+use Rattle.jq_starts.specs.declared.starts.Starts.{Starts}
+use Rattle.jq_session.specs.Sessions.{options_of, starts_of, state_of}
 use Rattle.jq_script.specs.Lines.{lines, whole_lines}
-use Rattle.jq_script.specs.Script.{AreAnswers}
+use Rattle.jq_script.specs.Script.{AreAnswers, Point, point}
+use Rattle.jq_script.specs.declared.host.Host.{Host}
+
+-- the count of starts for the next filter
+abbrev pub spare_starts : Option Starts → ℕ
+spare_starts (Some starts) = starts_in starts
+spare_starts None = 0
+
+-- The point of a session and a spare count. Another filter counts in the spare one, and that of the old filter becomes the spare one;
+-- so the starts of all filters are the sum of both.
+abbrev pub point_of : Host → Point
+point_of s = point (options_of s.session) (state_of s.session) (starts_of s.session + spare_starts s.spare)
 
 -- the bytes on the output, if the writer's bytes are known, and the point of the session
 pub record Progress : Type 0 where

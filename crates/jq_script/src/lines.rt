@@ -2,7 +2,7 @@
 ghost use Rattle.std.specs.Prelude.{◌≡◌, ◌≤◌, ◌++◌, ℕ, List, [], OnOk, length, ◌==◌};
 ghost use Rattle.jq_script.specs.Requests.{line_limit};
 
-use crate::requests::{Request, request_of};
+use crate::requests::{Instruction, Request, instruction_of};
 use jv_data::NoMemory;
 use std::alloc::Global;
 
@@ -18,8 +18,8 @@ pub(crate) struct Line {
 }
 
 impl Line {
-    ghost use Rattle.jq_script.specs.Requests.{request_of};
-    ghost use Rattle.jq_script.specs.private.Reading.{request_in};
+    ghost use Rattle.jq_script.specs.Requests.{instruction_of};
+    ghost use Rattle.jq_script.specs.private.Reading.{instruction_in};
     ghost use Rattle.jq_script.specs.private.Lines.{HasRead};
 
     /// No bytes were read.
@@ -55,14 +55,14 @@ impl Line {
         !self.is_long && self.kept.is_empty()
     }
 
-    /// The request of the line.
-    pub(crate) fn request(&self) -> Request<'_>
-        ensures { (line : List ℕ) → HasRead self.now line → request_in result ≡ request_of line }
+    /// The instruction of the line.
+    pub(crate) fn instruction(&self) -> Instruction<'_>
+        ensures { (line : List ℕ) → HasRead self.now line → instruction_in result ≡ instruction_of line }
     {
         if self.is_long {
-            Request::Unknown
+            Instruction::Request(Request::Unknown)
         } else {
-            request_of(&self.kept)
+            instruction_of(&self.kept)
         }
     }
 

@@ -1,10 +1,10 @@
-// The request of a line of a script.
+// The instruction of a line of a script.
 ghost use Rattle.std.specs.Prelude.{◌≡◌, ◌≤◌, ℕ, length, true};
 ghost use Rattle.std.specs.List.{list_all};
 ghost use Rattle.std.specs.Char.{is_ascii_digit};
 ghost use Rattle.std.specs.Str.Parse.{digits_value};
-ghost use Rattle.jq_script.specs.Requests.{around_space, change_by, command, place_of, remove_at, request_of, word_alone, line_limit, insert, replace};
-ghost use Rattle.jq_script.specs.private.Reading.{changing, request_in};
+ghost use Rattle.jq_script.specs.Requests.{around_space, change_by, command, instruction_of, instruction_with, place_of, remove_at, word_alone, line_limit, insert, replace};
+ghost use Rattle.jq_script.specs.private.Reading.{changing, instruction_in, request_in};
 ghost use Rattle.jq_script.specs.Requests as requests;
 
 use crate::parts::around;
@@ -20,7 +20,7 @@ pub(crate) enum Change {
     Append,
 }
 
-/// The request of a line.
+/// What is requested of a session with its present filter.
 #[derive(Clone, Copy)]
 pub(crate) enum Request<'l> {
     Change(Change, &'l [u8]),
@@ -31,14 +31,32 @@ pub(crate) enum Request<'l> {
     Unknown,
 }
 
-/// The request of a line that is not over the limit.
-pub(crate) fn request_of(line: &[u8]) -> Request<'_>
+/// The instruction of a line.
+#[derive(Clone, Copy)]
+pub(crate) enum Instruction<'l> {
+    Request(Request<'l>),
+    /// Another filter.
+    Filter(&'l [u8]),
+}
+
+/// The instruction of a line that is not over the limit.
+pub(crate) fn instruction_of(line: &[u8]) -> Instruction<'_>
     requires { length line.now ≤ line_limit }
-    ensures { request_in result ≡ request_of line.now }
+    ensures { instruction_in result ≡ instruction_of line.now }
 {
     match around(b' ', line) {
-        Some((word, rest)) => command(word, rest),
-        None => word_alone(line),
+        Some((word, rest)) => instruction_with(word, rest),
+        None => Instruction::Request(word_alone(line)),
+    }
+}
+
+fn instruction_with<'l>(word: &[u8], rest: &'l [u8]) -> Instruction<'l>
+    ensures { instruction_in result ≡ instruction_with word.now rest.now }
+{
+    if word == b"filter".as_slice() {
+        Instruction::Filter(rest)
+    } else {
+        Instruction::Request(command(word, rest))
     }
 }
 

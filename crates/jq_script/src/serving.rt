@@ -2,16 +2,15 @@
 ghost use Rattle.std.specs.Prelude.{◌≡◌, ◌≢◌, ◌∷◌, ◌++◌, ℕ, List, [], IfErr, OnErr, OnOk};
 ghost use Rattle.jq_devices.specs.Watched.{HasFailed, device_of, failures_of};
 ghost use Rattle.jq_devices.specs.declared.faults.StreamFault.TheVariants.{Read as ReadFault, Write as WriteFault};
-ghost use Rattle.jq_session.specs.Sessions.{point_of};
-ghost use Rattle.jq_script.specs.Serving.{Answers, AnswersFirst, IsOnePass, IsServed, IsStopped, progress, serving};
+ghost use Rattle.jq_script.specs.Serving.{Answers, AnswersFirst, IsOnePass, IsServed, IsStopped, point_of, progress, serving};
 ghost use Rattle.jq_script.specs.private.Lines.{AreLines, AreLinesFirst, HasNoNewline, HasRead, last_line};
 
+use crate::host::Host;
+use crate::instructions::carry_out;
 use crate::lines::Line;
 use crate::parts::around;
-use crate::replies::reply_to;
 use crate::writing::write_reply;
 use jq_devices::{Read, StreamFault, Watched, Write, read_buffer, read_fault};
-use jq_session::Session;
 use std::alloc::Global;
 
 /// Serves the lines of a script from the input. Each line's answer is written and flushed before more is read. With `follow`, the
@@ -25,16 +24,16 @@ use std::alloc::Global;
 pub fn serve<R: Read, W: Write>(
     alloc: Global,
     follow: bool,
-    session: &mut Session,
+    host: &mut Host,
     input: &mut Watched<R>,
     output: &mut Watched<W>,
 ) -> Result<(), StreamFault>
     ensures served { OnOk result (IsServed follow
-        (serving (R.remaining (device_of input.old)) (W.contents (device_of output.old)) (point_of session.old)) (serving (R.remaining (device_of input.new)) (W.contents (device_of output.new)) (point_of session.new))) }
+        (serving (R.remaining (device_of input.old)) (W.contents (device_of output.old)) (point_of host.old)) (serving (R.remaining (device_of input.new)) (W.contents (device_of output.new)) (point_of host.new))) }
     ensures stopped { IfErr result (λ fault. IsStopped follow fault
-        (serving (R.remaining (device_of input.old)) (W.contents (device_of output.old)) (point_of session.old)) (serving (R.remaining (device_of input.new)) (W.contents (device_of output.new)) (point_of session.new))) }
+        (serving (R.remaining (device_of input.old)) (W.contents (device_of output.old)) (point_of host.old)) (serving (R.remaining (device_of input.new)) (W.contents (device_of output.new)) (point_of host.new))) }
     ensures one_pass { OnErr result (IsOnePass follow
-        (serving (R.remaining (device_of input.old)) (W.contents (device_of output.old)) (point_of session.old)) (serving (R.remaining (device_of input.new)) (W.contents (device_of output.new)) (point_of session.new))) }
+        (serving (R.remaining (device_of input.old)) (W.contents (device_of output.old)) (point_of host.old)) (serving (R.remaining (device_of input.new)) (W.contents (device_of output.new)) (point_of host.new))) }
     ensures read_failed { IfErr result (λ fault. fault ≡ ReadFault → HasFailed (failures_of input.old) (failures_of input.new)) }
     ensures write_failed { IfErr result (λ fault. fault ≡ WriteFault → HasFailed (failures_of output.old) (failures_of output.new)) }
 {
@@ -42,8 +41,8 @@ pub fn serve<R: Read, W: Write>(
     let mut line = Line::new(alloc);
     loop {
         match input.read(&mut piece) {
-            Ok(0) => return serve_last(alloc, follow, &line, session, output),
-            Ok(len) => serve_bytes(alloc, follow, &piece[..len], &mut line, session, output)?,
+            Ok(0) => return serve_last(alloc, follow, &line, host, output),
+            Ok(len) => serve_bytes(alloc, follow, &piece[..len], &mut line, host, output)?,
             Err(error) => return Err(read_fault(&error)),
         }
     }
@@ -55,15 +54,15 @@ fn serve_bytes<W: Write>(
     follow: bool,
     bytes: &[u8],
     line: &mut Line,
-    session: &mut Session,
+    host: &mut Host,
     output: &mut Watched<W>,
 ) -> Result<(), StreamFault>
     ensures ok { OnOk result ((begun : List ℕ) → HasNoNewline begun → HasRead line.old begun
         → (whole : List (List ℕ)) × (last : List ℕ) × AreLines (begun ++ bytes.now) whole last × HasRead line.new last
-        × Answers follow whole (progress (W.contents (device_of output.old)) (point_of session.old)) (progress (W.contents (device_of output.new)) (point_of session.new))) }
+        × Answers follow whole (progress (W.contents (device_of output.old)) (point_of host.old)) (progress (W.contents (device_of output.new)) (point_of host.new))) }
     ensures err { OnErr result ((begun : List ℕ) → HasNoNewline begun → HasRead line.old begun
         → (served : List (List ℕ)) × AreLinesFirst (begun ++ bytes.now) served
-        × AnswersFirst follow served (progress (W.contents (device_of output.old)) (point_of session.old)) (progress (W.contents (device_of output.new)) (point_of session.new))) }
+        × AnswersFirst follow served (progress (W.contents (device_of output.old)) (point_of host.old)) (progress (W.contents (device_of output.new)) (point_of host.new))) }
     ensures unfailed { OnOk result (failures_of output.new ≡ failures_of output.old) }
     ensures failed { IfErr result (λ fault. fault ≡ WriteFault → HasFailed (failures_of output.old) (failures_of output.new)) }
     ensures fault { IfErr result (λ fault. fault ≢ ReadFault) }
@@ -71,7 +70,7 @@ fn serve_bytes<W: Write>(
     let mut rest = bytes;
     while let Some((end, others)) = around(b'\n', rest) {
         line.add(end)?;
-        serve_line(alloc, follow, line, session, output)?;
+        serve_line(alloc, follow, line, host, output)?;
         line.clear();
         rest = others;
     }
@@ -84,13 +83,13 @@ fn serve_last<W: Write>(
     alloc: Global,
     follow: bool,
     line: &Line,
-    session: &mut Session,
+    host: &mut Host,
     output: &mut Watched<W>,
 ) -> Result<(), StreamFault>
     ensures ok { OnOk result ((last : List ℕ) → HasRead line.now last
-        → Answers follow (last_line last) (progress (W.contents (device_of output.old)) (point_of session.old)) (progress (W.contents (device_of output.new)) (point_of session.new))) }
+        → Answers follow (last_line last) (progress (W.contents (device_of output.old)) (point_of host.old)) (progress (W.contents (device_of output.new)) (point_of host.new))) }
     ensures err { OnErr result ((last : List ℕ) → HasRead line.now last
-        → AnswersFirst follow (last_line last) (progress (W.contents (device_of output.old)) (point_of session.old)) (progress (W.contents (device_of output.new)) (point_of session.new))) }
+        → AnswersFirst follow (last_line last) (progress (W.contents (device_of output.old)) (point_of host.old)) (progress (W.contents (device_of output.new)) (point_of host.new))) }
     ensures unfailed { OnOk result (failures_of output.new ≡ failures_of output.old) }
     ensures failed { IfErr result (λ fault. fault ≡ WriteFault → HasFailed (failures_of output.old) (failures_of output.new)) }
     ensures fault { IfErr result (λ fault. fault ≢ ReadFault) }
@@ -98,7 +97,7 @@ fn serve_last<W: Write>(
     if line.is_empty() {
         Ok(())
     } else {
-        serve_line(alloc, follow, line, session, output)
+        serve_line(alloc, follow, line, host, output)
     }
 }
 
@@ -106,17 +105,17 @@ fn serve_line<W: Write>(
     alloc: Global,
     follow: bool,
     line: &Line,
-    session: &mut Session,
+    host: &mut Host,
     output: &mut Watched<W>,
 ) -> Result<(), StreamFault>
     ensures ok { OnOk result ((l : List ℕ) → HasRead line.now l
-        → Answers follow (l ∷ []) (progress (W.contents (device_of output.old)) (point_of session.old)) (progress (W.contents (device_of output.new)) (point_of session.new))) }
+        → Answers follow (l ∷ []) (progress (W.contents (device_of output.old)) (point_of host.old)) (progress (W.contents (device_of output.new)) (point_of host.new))) }
     ensures err { OnErr result ((l : List ℕ) → HasRead line.now l
-        → AnswersFirst follow (l ∷ []) (progress (W.contents (device_of output.old)) (point_of session.old)) (progress (W.contents (device_of output.new)) (point_of session.new))) }
+        → AnswersFirst follow (l ∷ []) (progress (W.contents (device_of output.old)) (point_of host.old)) (progress (W.contents (device_of output.new)) (point_of host.new))) }
     ensures unfailed { OnOk result (failures_of output.new ≡ failures_of output.old) }
     ensures failed { IfErr result (λ fault. fault ≡ WriteFault → HasFailed (failures_of output.old) (failures_of output.new)) }
     ensures fault { IfErr result (λ fault. fault ≢ ReadFault) }
 {
-    let reply = reply_to(alloc, line.request(), session);
-    write_reply(alloc, follow, &reply, session, output)
+    let reply = carry_out(alloc, line.instruction(), host);
+    write_reply(alloc, follow, &reply, &host.session, output)
 }

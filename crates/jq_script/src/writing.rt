@@ -6,7 +6,7 @@ ghost use Rattle.jq_devices.specs.Writing.{AppendsFirst};
 ghost use Rattle.jq_devices.specs.declared.faults.StreamFault.TheVariants.{Read as ReadFault, Write as WriteFault};
 ghost use Rattle.jq_session.specs.Sessions.{state_of};
 ghost use Rattle.jq_session.specs.States.{outcome};
-ghost use Rattle.jq_script.specs.Answers.{answer_line, err_answer, out_answer, spaced, splice_answer};
+ghost use Rattle.jq_script.specs.Answers.{answer_line, changes, err_answer, out_answer, spaced, splice_answer};
 ghost use Rattle.jq_script.specs.private.Replies.{answer_of, made_answer};
 
 use crate::replies::{Reply, refused_line};
@@ -17,8 +17,8 @@ use jq_session::{Follow, Session};
 use jv_data::NoMemory;
 use std::alloc::Global;
 
-/// Writes an answer and flushes the writer. With `follow`, that to an edit has what it changed. After a fault, the first bytes of
-/// the answer were written. A refusal allocates nothing.
+/// Writes an answer and flushes the writer. With `follow`, that to an edit or another filter has what it changed. After a fault, the
+/// first bytes of the answer were written. A refusal allocates nothing.
 pub(crate) fn write_reply<W: Write>(
     alloc: Global,
     follow: bool,
@@ -34,14 +34,14 @@ pub(crate) fn write_reply<W: Write>(
 {
     match reply {
         Reply::Made(made) => write_made(alloc, follow, made, output),
-        Reply::Refused(refused) => write(output, refused_line(*refused)),
+        Reply::Refused(refused) => write(output, refused_line(refused)),
         Reply::Output => write_output(alloc, session, output),
         Reply::Errors => write_errors(alloc, session, output),
         Reply::Status => write_number(alloc, b"status", u128::from(session.status()), output),
     }
 }
 
-// Writes the answer to an accepted edit, all of it at once.
+// Writes the answer to an accepted edit or filter, all of it at once.
 fn write_made<W: Write>(
     alloc: Global,
     follow: bool,
@@ -65,9 +65,16 @@ fn made_answer(alloc: Global, follow: bool, made: &Follow) -> Result<Vec<u8>, No
     if !follow {
         return Ok(answer);
     }
-    add_splice(&mut answer, b"out", &made.out)?;
-    add_splice(&mut answer, b"err", &made.err)?;
+    add_changes(&mut answer, made)?;
     Ok(answer)
+}
+
+fn add_changes(answer: &mut Vec<u8>, made: &Follow) -> Result<(), NoMemory>
+    ensures { OnOk result (answer.new.items ≡ answer.old.items ++ changes made.now) }
+{
+    add_splice(answer, b"out", &made.out)?;
+    add_splice(answer, b"err", &made.err)?;
+    Ok(())
 }
 
 fn add_splice(answer: &mut Vec<u8>, word: &[u8], splice: &Splice) -> Result<(), NoMemory>

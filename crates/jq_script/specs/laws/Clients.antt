@@ -3,8 +3,8 @@ use Rattle.std.specs.Prelude.{◌≡◌, ◌==◌, ◌||◌, ◌<◌, ◌+◌, �
 use Rattle.std.specs.List.{replace_range}
 use Rattle.std.specs.Str.{bytes_eq}
 use Rattle.std.specs.Str.Parse.{digits_value}
-use Rattle.jq_session.specs.States.{Point, State, outcome}
-use Rattle.jq_script.specs.Script.{AreAnswers}
+use Rattle.jq_session.specs.States.{State, outcome}
+use Rattle.jq_script.specs.Script.{AreAnswers, Point}
 
 -- ---- the parts of an answer
 
@@ -38,17 +38,21 @@ pub record Client : Type 0 where
   pub output : List ℕ
   pub errors : List ℕ
 
--- What the client keeps after an answer, by its first word and the bytes after that. After a line `ok S` come a splice of the output
--- and one of the errors, each with a word before it.
+-- what the client keeps after a splice of the output and one of the errors, each with a word before it, and the bytes after them
+abbrev pub heard_pair : (told : List ℕ) → Client → Client
+heard_pair told c = let out = past 32 told in record { output = changed out c.output; errors = changed (past 32 (after_splice out)) c.errors }
+
+abbrev pub after_pair : List ℕ → List ℕ
+after_pair told = after_splice (past 32 (after_splice (past 32 told)))
+
+-- What the client keeps after an answer, by its first word and the bytes after that. After a line `ok S` comes such a pair.
 abbrev pub heard_by : (word told : List ℕ) → Client → Client
-heard_by word told c =
-    let out = past 32 (past 10 told) in
-    if bytes_eq word (codes "ok") then record { output = changed out c.output; errors = changed (past 32 (after_splice out)) c.errors } else c
+heard_by word told c = if bytes_eq word (codes "ok") then heard_pair (past 10 told) c else c
 
 -- the bytes after the answer
 abbrev pub unheard_by : (word told : List ℕ) → List ℕ
 unheard_by word told =
-    if bytes_eq word (codes "ok") then after_splice (past 32 (after_splice (past 32 (past 10 told))))
+    if bytes_eq word (codes "ok") then after_pair (past 10 told)
     else (if bytes_eq word (codes "out") || bytes_eq word (codes "err") then drop (number 10 told) (past 10 told) else past 10 told)
 
 abbrev pub heard : List ℕ → Client → Client
@@ -74,7 +78,8 @@ pub record IsShort (s : State) : Type 0 where
 
 -- the same for all states to which the first of these lines lead
 abbrev pub AreShort : (lines : List (List ℕ)) → Point → Type 0
-AreShort lines first = (some others : List (List ℕ)) (answers : List ℕ) (p : Point) → some ++ others ≡ lines → AreAnswers true some first answers p → IsShort p.state
+AreShort lines first =
+    (some others : List (List ℕ)) (answers : List ℕ) (p : Point) → some ++ others ≡ lines → AreAnswers true some first answers p → IsShort p.state
 
 -- A client that has the output and the errors of runs from scratch on the first inputs has those of the present inputs after the
 -- answers to any lines.

@@ -1,6 +1,6 @@
--- The lines of a script, as a table: the form of the lines for each request.
+-- The lines of a script, as a table: the form of the lines for each instruction.
 use Rattle.std.specs.Prelude.{◌≡◌, ◌≢◌, ◌≤◌, ◌↔◌, ℕ, List, ◌∷◌, ◌++◌, length, codes, Some}
-use Rattle.jq_script.specs.Requests.{Request, change, remove, show, errors, status, unknown, insert, replace, append, place_of, line_limit, request_of}
+use Rattle.jq_script.specs.Requests.{Request, change, remove, show, errors, status, unknown, insert, replace, append, Instruction, request, filter, place_of, line_limit, instruction_of}
 
 -- these digits are the number of an input
 abbrev pub Writes : List ℕ → ℕ → Type 0
@@ -20,6 +20,10 @@ AsksFor errors line = line ≡ codes "errors"
 AsksFor status line = line ≡ codes "status"
 AsksFor unknown line = ⊥
 
--- A line that is not too long is a request exactly if it is in the table; every other line is unknown.
+abbrev pub Gives : Instruction → List ℕ → Type 0
+Gives (request r) line = AsksFor r line
+Gives (filter text) line = line ≡ parted (codes "filter") text
+
+-- A line that is not too long gives an instruction exactly if it is in the table; every other line is unknown.
 abbrev pub IsTable : Type 0
-IsTable = (line : List ℕ) (r : Request) → length line ≤ line_limit → r ≢ unknown → (request_of line ≡ r) ↔ AsksFor r line
+IsTable = (line : List ℕ) (i : Instruction) → length line ≤ line_limit → i ≢ request unknown → (instruction_of line ≡ i) ↔ Gives i line

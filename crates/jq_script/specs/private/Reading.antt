@@ -4,6 +4,8 @@ use Rattle.std.specs.Borrow.{Bor}
 use Rattle.jq_script.specs.Requests as requests
 use Rattle.jq_script.specs.declared.requests.Change.{Change}
 use Rattle.jq_script.specs.declared.requests.Change.TheVariants as change
+use Rattle.jq_script.specs.declared.requests.Instruction.{Instruction}
+use Rattle.jq_script.specs.declared.requests.Instruction.TheVariants as instruction
 use Rattle.jq_script.specs.declared.requests.Request.{Request}
 use Rattle.jq_script.specs.declared.requests.Request.TheVariants as request
 
@@ -19,6 +21,10 @@ request_in request.Show = requests.show
 request_in request.Errors = requests.errors
 request_in request.Status = requests.status
 request_in request.Unknown = requests.unknown
+
+abbrev pub instruction_in : Instruction → requests.Instruction
+instruction_in (instruction.Request r) = requests.request (request_in r)
+instruction_in (instruction.Filter text) = requests.filter text.now
 
 -- the bytes before and after the first occurrence of a byte
 abbrev pub IsAround : ℕ → List ℕ → Option (Bor (List ℕ) × Bor (List ℕ)) → Type 0

@@ -3,15 +3,14 @@ use Rattle.std.proofs.lemmas.Grind.{common_steps}
 use Rattle.jq_devices.proofs.shared.Failures.{failed_after}
 use Rattle.jq_devices.specs.Watched.{device_of}
 use Rattle.jq_devices.specs.declared.faults.StreamFault.TheVariants.{NoMemory}
-use Rattle.jq_session.specs.Sessions.{point_of}
 use Rattle.jv_meaning.proofs.shared.Results.{error_returned, if_err_map, if_other, on_err, on_err_map, on_ok_map}
-use Rattle.jq_script.specs.Serving.{serving, IsStopped}
+use Rattle.jq_script.specs.Serving.{serving, IsStopped, point_of}
 use Rattle.jq_script.proofs.Going.{consumed_bytes, going_begun, going_on, going_served, last_stopped, nothing_read, one_pass_begun, one_pass_last, one_pass_piece, one_pass_read, piece_stopped, read_stopped, result_stopped, short_piece, stopped_by, unbegun}
 use Rattle.jq_script.proofs.serving.serve.Goals as goal
 
 pub returns-in_err-piece-clause-stopped : goal.returns-in_err-piece-clause-stopped
 returns-in_err-piece-clause-stopped g c =
-    let old = serving (g.R.Read.remaining (device_of c.args.input.now)) (g.W.Write.contents (device_of c.args.output.now)) (point_of c.args.session.now) in
+    let old = serving (g.R.Read.remaining (device_of c.args.input.now)) (g.W.Write.contents (device_of c.args.output.now)) (point_of c.args.host.now) in
     error_returned c.from_residual.result NoMemory (λ f. IsStopped c.args.follow f old old) c.from_residual.ensures.1 (unbegun old)
 
 pub loop-line-init : goal.loop-line-init
@@ -19,9 +18,9 @@ loop-line-init g c = record { going = going_begun _ _ c.new-line.ensures; room =
 
 pub returns-in-Ok-eq0-clause-served : goal.returns-in-Ok-eq0-clause-served
 returns-in-Ok-eq0-clause-served g c =
-    let old = serving (g.R.Read.remaining (device_of c.args.input.now)) (g.W.Write.contents (device_of c.args.output.now)) (point_of c.args.session.now) in
-    let mid = serving (g.R.Read.remaining (device_of c.loop-line.input)) (g.W.Write.contents (device_of c.loop-line.output)) (point_of c.loop-line.session) in
-    let new = serving (g.R.Read.remaining (device_of c.read.new.self)) (g.W.Write.contents (device_of c.serve_last.new.output)) (point_of c.serve_last.new.session) in
+    let old = serving (g.R.Read.remaining (device_of c.args.input.now)) (g.W.Write.contents (device_of c.args.output.now)) (point_of c.args.host.now) in
+    let mid = serving (g.R.Read.remaining (device_of c.loop-line.input)) (g.W.Write.contents (device_of c.loop-line.output)) (point_of c.loop-line.host) in
+    let new = serving (g.R.Read.remaining (device_of c.read.new.self)) (g.W.Write.contents (device_of c.serve_last.new.output)) (point_of c.serve_last.new.host) in
     let bytes = c.in-Ok-eq0.ensures.bytes in
     let zero : c.in-Ok-eq0.field-0 ≡ 0 = first_of (search rules, omega arith, grind (arith, common_steps)) in
     let room : 0 < length c.read.new.buf = omega (arith, c.deref_mut.ensures.len, c.loop-line.invariant.room) in
@@ -30,9 +29,9 @@ returns-in-Ok-eq0-clause-served g c =
 
 pub returns-in-Ok-eq0-clause-stopped : goal.returns-in-Ok-eq0-clause-stopped
 returns-in-Ok-eq0-clause-stopped g c =
-    let old = serving (g.R.Read.remaining (device_of c.args.input.now)) (g.W.Write.contents (device_of c.args.output.now)) (point_of c.args.session.now) in
-    let mid = serving (g.R.Read.remaining (device_of c.loop-line.input)) (g.W.Write.contents (device_of c.loop-line.output)) (point_of c.loop-line.session) in
-    let new = serving (g.R.Read.remaining (device_of c.read.new.self)) (g.W.Write.contents (device_of c.serve_last.new.output)) (point_of c.serve_last.new.session) in
+    let old = serving (g.R.Read.remaining (device_of c.args.input.now)) (g.W.Write.contents (device_of c.args.output.now)) (point_of c.args.host.now) in
+    let mid = serving (g.R.Read.remaining (device_of c.loop-line.input)) (g.W.Write.contents (device_of c.loop-line.output)) (point_of c.loop-line.host) in
+    let new = serving (g.R.Read.remaining (device_of c.read.new.self)) (g.W.Write.contents (device_of c.serve_last.new.output)) (point_of c.serve_last.new.host) in
     let bytes = c.in-Ok-eq0.ensures.bytes in
     let zero : c.in-Ok-eq0.field-0 ≡ 0 = first_of (search rules, omega arith, grind (arith, common_steps)) in
     let room : 0 < length c.read.new.buf = omega (arith, c.deref_mut.ensures.len, c.loop-line.invariant.room) in
@@ -41,9 +40,9 @@ returns-in-Ok-eq0-clause-stopped g c =
 
 pub returns-in_err-serve_bytes-in-Ok-clause-stopped : goal.returns-in_err-serve_bytes-in-Ok-clause-stopped
 returns-in_err-serve_bytes-in-Ok-clause-stopped g c =
-    let old = serving (g.R.Read.remaining (device_of c.args.input.now)) (g.W.Write.contents (device_of c.args.output.now)) (point_of c.args.session.now) in
-    let mid = serving (g.R.Read.remaining (device_of c.loop-line.input)) (g.W.Write.contents (device_of c.loop-line.output)) (point_of c.loop-line.session) in
-    let new = serving (g.R.Read.remaining (device_of c.read.new.self)) (g.W.Write.contents (device_of c.serve_bytes.new.output)) (point_of c.serve_bytes.new.session) in
+    let old = serving (g.R.Read.remaining (device_of c.args.input.now)) (g.W.Write.contents (device_of c.args.output.now)) (point_of c.args.host.now) in
+    let mid = serving (g.R.Read.remaining (device_of c.loop-line.input)) (g.W.Write.contents (device_of c.loop-line.output)) (point_of c.loop-line.host) in
+    let new = serving (g.R.Read.remaining (device_of c.read.new.self)) (g.W.Write.contents (device_of c.serve_bytes.new.output)) (point_of c.serve_bytes.new.host) in
     let same : c.deref.result.now ≡ c.read.new.buf = first_of (search rules, grind (arith, common_steps)) in
     let fault = c.in_err-serve_bytes-in-Ok.field-0.0 in
     error_returned c.from_residual-in_err-serve_bytes-in-Ok.result fault (λ f. IsStopped c.args.follow f old new) c.from_residual-in_err-serve_bytes-in-Ok.ensures.1
@@ -52,21 +51,21 @@ returns-in_err-serve_bytes-in-Ok-clause-stopped g c =
 
 pub returns-in-Err-clause-stopped : goal.returns-in-Err-clause-stopped
 returns-in-Err-clause-stopped g c =
-    let old = serving (g.R.Read.remaining (device_of c.args.input.now)) (g.W.Write.contents (device_of c.args.output.now)) (point_of c.args.session.now) in
-    let mid = serving (g.R.Read.remaining (device_of c.loop-line.input)) (g.W.Write.contents (device_of c.loop-line.output)) (point_of c.loop-line.session) in
-    let new = serving (g.R.Read.remaining (device_of c.read.new.self)) (g.W.Write.contents (device_of c.loop-line.output)) (point_of c.loop-line.session) in
+    let old = serving (g.R.Read.remaining (device_of c.args.input.now)) (g.W.Write.contents (device_of c.args.output.now)) (point_of c.args.host.now) in
+    let mid = serving (g.R.Read.remaining (device_of c.loop-line.input)) (g.W.Write.contents (device_of c.loop-line.output)) (point_of c.loop-line.host) in
+    let new = serving (g.R.Read.remaining (device_of c.read.new.self)) (g.W.Write.contents (device_of c.loop-line.output)) (point_of c.loop-line.host) in
     read_stopped c.read_fault.result old mid new c.loop-line.line c.loop-line.invariant.going c.in-Err.ensures.bytes refl c.read_fault.ensures.unwritten
 
 pub returns-in_err-piece-clause-one_pass : goal.returns-in_err-piece-clause-one_pass
 returns-in_err-piece-clause-one_pass g c =
     on_err c.from_residual.result
-    (one_pass_begun (serving (g.R.Read.remaining (device_of c.args.input.now)) (g.W.Write.contents (device_of c.args.output.now)) (point_of c.args.session.now)))
+    (one_pass_begun (serving (g.R.Read.remaining (device_of c.args.input.now)) (g.W.Write.contents (device_of c.args.output.now)) (point_of c.args.host.now)))
 
 pub returns-in-Ok-eq0-clause-one_pass : goal.returns-in-Ok-eq0-clause-one_pass
 returns-in-Ok-eq0-clause-one_pass g c =
-    let old = serving (g.R.Read.remaining (device_of c.args.input.now)) (g.W.Write.contents (device_of c.args.output.now)) (point_of c.args.session.now) in
-    let mid = serving (g.R.Read.remaining (device_of c.loop-line.input)) (g.W.Write.contents (device_of c.loop-line.output)) (point_of c.loop-line.session) in
-    let new = serving (g.R.Read.remaining (device_of c.read.new.self)) (g.W.Write.contents (device_of c.serve_last.new.output)) (point_of c.serve_last.new.session) in
+    let old = serving (g.R.Read.remaining (device_of c.args.input.now)) (g.W.Write.contents (device_of c.args.output.now)) (point_of c.args.host.now) in
+    let mid = serving (g.R.Read.remaining (device_of c.loop-line.input)) (g.W.Write.contents (device_of c.loop-line.output)) (point_of c.loop-line.host) in
+    let new = serving (g.R.Read.remaining (device_of c.read.new.self)) (g.W.Write.contents (device_of c.serve_last.new.output)) (point_of c.serve_last.new.host) in
     let bytes = c.in-Ok-eq0.ensures.bytes in
     let zero : c.in-Ok-eq0.field-0 ≡ 0 = first_of (search rules, omega arith, grind (arith, common_steps)) in
     on_err_map c.serve_last.result c.serve_last.ensures.err
@@ -74,9 +73,9 @@ returns-in-Ok-eq0-clause-one_pass g c =
 
 pub returns-in_err-serve_bytes-in-Ok-clause-one_pass : goal.returns-in_err-serve_bytes-in-Ok-clause-one_pass
 returns-in_err-serve_bytes-in-Ok-clause-one_pass g c =
-    let old = serving (g.R.Read.remaining (device_of c.args.input.now)) (g.W.Write.contents (device_of c.args.output.now)) (point_of c.args.session.now) in
-    let mid = serving (g.R.Read.remaining (device_of c.loop-line.input)) (g.W.Write.contents (device_of c.loop-line.output)) (point_of c.loop-line.session) in
-    let new = serving (g.R.Read.remaining (device_of c.read.new.self)) (g.W.Write.contents (device_of c.serve_bytes.new.output)) (point_of c.serve_bytes.new.session) in
+    let old = serving (g.R.Read.remaining (device_of c.args.input.now)) (g.W.Write.contents (device_of c.args.output.now)) (point_of c.args.host.now) in
+    let mid = serving (g.R.Read.remaining (device_of c.loop-line.input)) (g.W.Write.contents (device_of c.loop-line.output)) (point_of c.loop-line.host) in
+    let new = serving (g.R.Read.remaining (device_of c.read.new.self)) (g.W.Write.contents (device_of c.serve_bytes.new.output)) (point_of c.serve_bytes.new.host) in
     let same : c.deref.result.now ≡ c.read.new.buf = first_of (search rules, grind (arith, common_steps)) in
     let whole : length c.read.new.buf ≤ 65536 = omega (arith, c.deref_mut.ensures.len, c.loop-line.invariant.room) in
     on_err c.from_residual-in_err-serve_bytes-in-Ok.result
@@ -85,16 +84,16 @@ returns-in_err-serve_bytes-in-Ok-clause-one_pass g c =
 
 pub returns-in-Err-clause-one_pass : goal.returns-in-Err-clause-one_pass
 returns-in-Err-clause-one_pass g c =
-    let old = serving (g.R.Read.remaining (device_of c.args.input.now)) (g.W.Write.contents (device_of c.args.output.now)) (point_of c.args.session.now) in
-    let mid = serving (g.R.Read.remaining (device_of c.loop-line.input)) (g.W.Write.contents (device_of c.loop-line.output)) (point_of c.loop-line.session) in
-    let new = serving (g.R.Read.remaining (device_of c.read.new.self)) (g.W.Write.contents (device_of c.loop-line.output)) (point_of c.loop-line.session) in
+    let old = serving (g.R.Read.remaining (device_of c.args.input.now)) (g.W.Write.contents (device_of c.args.output.now)) (point_of c.args.host.now) in
+    let mid = serving (g.R.Read.remaining (device_of c.loop-line.input)) (g.W.Write.contents (device_of c.loop-line.output)) (point_of c.loop-line.host) in
+    let new = serving (g.R.Read.remaining (device_of c.read.new.self)) (g.W.Write.contents (device_of c.loop-line.output)) (point_of c.loop-line.host) in
     one_pass_read old mid new c.loop-line.line c.loop-line.invariant.going c.in-Err.ensures.bytes refl
 
 pub loop-line-preserved : goal.loop-line-preserved
 loop-line-preserved g c =
-    let old = serving (g.R.Read.remaining (device_of c.args.input.now)) (g.W.Write.contents (device_of c.args.output.now)) (point_of c.args.session.now) in
-    let mid = serving (g.R.Read.remaining (device_of c.loop-line.input)) (g.W.Write.contents (device_of c.loop-line.output)) (point_of c.loop-line.session) in
-    let new = serving (g.R.Read.remaining (device_of c.read.new.self)) (g.W.Write.contents (device_of c.serve_bytes.new.output)) (point_of c.serve_bytes.new.session) in
+    let old = serving (g.R.Read.remaining (device_of c.args.input.now)) (g.W.Write.contents (device_of c.args.output.now)) (point_of c.args.host.now) in
+    let mid = serving (g.R.Read.remaining (device_of c.loop-line.input)) (g.W.Write.contents (device_of c.loop-line.output)) (point_of c.loop-line.host) in
+    let new = serving (g.R.Read.remaining (device_of c.read.new.self)) (g.W.Write.contents (device_of c.serve_bytes.new.output)) (point_of c.serve_bytes.new.host) in
     let same : c.deref.result.now ≡ c.read.new.buf = first_of (search rules, grind (arith, common_steps)) in
     record {
       going = going_on old mid new c.loop-line.line c.serve_bytes.new.line _ c.loop-line.invariant.going c.in_ok-serve_bytes-in-Ok.ensures.ok

@@ -1,14 +1,13 @@
 use Rattle.std.proofs.Common.{◌≡◌, vec_len}
 use Rattle.jq_devices.specs.Watched.{device_of, failures_of, reads_left}
-use Rattle.jq_session.specs.Sessions.{point_of}
-use Rattle.jq_script.specs.Serving.{serving}
+use Rattle.jq_script.specs.Serving.{serving, point_of}
 use Rattle.jq_script.proofs.Going.{Going}
 use Rattle.jq_script.proofs.serving.serve.Given as goal
 
 abbrev pub invariant-loop-line : goal.invariant-loop-line
 invariant-loop-line g l = record {
-  going : Going l.fn.follow (serving (g.R.Read.remaining (device_of l.fn.input)) (g.W.Write.contents (device_of l.fn.output)) (point_of l.fn.session))
-      (serving (g.R.Read.remaining (device_of l.input)) (g.W.Write.contents (device_of l.output)) (point_of l.session)) l.line;
+  going : Going l.fn.follow (serving (g.R.Read.remaining (device_of l.fn.input)) (g.W.Write.contents (device_of l.fn.output)) (point_of l.fn.host))
+      (serving (g.R.Read.remaining (device_of l.input)) (g.W.Write.contents (device_of l.output)) (point_of l.host)) l.line;
   room : vec_len l.piece ≡ 65536;
   input : failures_of l.input ≡ failures_of l.fn.input;
   output : failures_of l.output ≡ failures_of l.fn.output;
