@@ -11,7 +11,8 @@ use Rattle.jq_stream.specs.Stopped.{WritesFirst}
 use Rattle.jq_devices.specs.Reading.{IsWhole}
 use Rattle.jq_pages.specs.Edits.{most_inputs}
 use Rattle.jq_session.specs.Starts.{IsFirstRun}
-use Rattle.jq_session.specs.States.{Plan, IsPlanOf, State, point}
+use Rattle.jq_session.specs.States.{Plan, IsPlanOf, State}
+use Rattle.jq_script.specs.Script.{Point, point}
 use Rattle.jq_script.specs.Serving.{Serving, serving}
 use Rattle.jq_script.specs.Serving as script
 use Rattle.jq_stream.specs.Accepted.{Accepts}
@@ -56,7 +57,7 @@ abbrev pub first_state : Mode → Job → Plan → List Value → State
 first_state mode job plan inputs = record { mode = mode; job = job; plan = plan; inputs = inputs }
 
 -- A session over the first inputs, whose mode, job and plan are those of the filter, came to another point; the script was read
--- from the standard input, the answers were written to standard output, and nothing was reported. The count of starts is the command's.
+-- from the standard input, the answers were written to standard output, and nothing was reported. The starts are those of all filters.
 pub record Serves (files : Option (List ℕ)) (o : Chosen) (text : List ℕ) (old new : Stage) (Served : Serving → Serving → Type 0) : Type 0 where
   pub mode : Mode
   pub job : Job
@@ -67,9 +68,10 @@ pub record Serves (files : Option (List ℕ)) (o : Chosen) (text : List ℕ) (ol
   pub starts : no_start found.values found.end ≡ None
   pub begun : ℕ
   pub first_run : IsFirstRun (first_state mode job plan found.values) old.starts begun
-  pub last : State
-  pub served : Served (serving old.streams.remaining old.streams.outputs.output (point (first_state mode job plan found.values) begun))
-      (serving new.streams.remaining new.streams.outputs.output (point last new.starts))
+  pub last : Point
+  pub counted : last.starts ≡ new.starts
+  pub served : Served (serving old.streams.remaining old.streams.outputs.output (point o (first_state mode job plan found.values) begun))
+      (serving new.streams.remaining new.streams.outputs.output last)
   pub unreported : old.streams.outputs.errors ≡ new.streams.outputs.errors
 
 -- Memory ran out in the first runs, which start the filter no more often than those of a session that is served.

@@ -3,29 +3,28 @@ ghost use Rattle.std.specs.Prelude.{◌≡◌, ℕ, List, IfErr, IfOk, map, stri
 ghost use Rattle.std.specs.declared.option.Option.{Option};
 ghost use Rattle.jq_devices.specs.Files.{bytes_left, opener_of};
 ghost use Rattle.jq_devices.specs.Watched.{device_of, failures_of};
-ghost use Rattle.jq_starts.specs.Starts.{starts_in};
 ghost use Rattle.jq_stream.specs.Streams.{streams, streams_of};
 ghost use Rattle.jq_app.specs.Blaming.{IsBlamed, failures};
 ghost use Rattle.jq_app.specs.Explained.{IsShown, asks_for_notes};
 ghost use Rattle.jq_app.specs.Served.{IsServed, ReadsTheStandardInput, WordsNeedInput};
-ghost use Rattle.jq_app.specs.Stages.{files_of, stage};
+ghost use Rattle.jq_app.specs.Stages.{files_of, stage, started_in};
 ghost use Rattle.jq_app.specs.Stopped.{CommandResult, IsStopped};
 
+use crate::counts::Counts;
 use crate::notes::{asks_for_notes, fault_note, usage_note};
 use crate::refusals::{refuse, refuse_words, write_text};
 use crate::serving::{Ended, run_config};
 use crate::words::report_noted;
 use jq_cli::{HELP_TEXT, UsageFault, VERSION_TEXT, config_of};
 use jq_devices::{FileReader, Opener, Read, StreamFault, UnnamedFiles, Watched, Write};
-use jq_starts::Starts;
 use std::alloc::Global;
 
-/// What is left of a command: the status of the process, the count of its starts, the reader of the files that its words name,
+/// What is left of a command: the status of the process, the counts of its starts, the reader of the files that its words name,
 /// and standard error.
 #[derive(Drop)]
 pub struct Finished<'a, F: Opener, E> {
     pub status: u8,
-    pub starts: Starts,
+    pub counts: Counts,
     pub files: Watched<FileReader<'a, F>>,
     pub errors: Watched<E>,
 }
@@ -34,7 +33,7 @@ pub struct Finished<'a, F: Opener, E> {
 #[derive(Drop)]
 struct Reported<'a, F: Opener> {
     status: u8,
-    starts: Starts,
+    counts: Counts,
     files: Watched<FileReader<'a, F>>,
 }
 
@@ -48,7 +47,7 @@ struct Reported<'a, F: Opener> {
 /// run. If a fault's line cannot be written either, the fault is not reported. A read fault is reported only if the files or the
 /// standard input failed, and a write fault only if one of the outputs failed.
 ///
-/// The count of starts and the reader of the files come back: the starts of a session are counted there, and what the reader has
+/// The counts of starts and the reader of the files come back: the starts of a session are counted there, and what the reader has
 /// left was not read.
 ///
 /// If `--explain` is one of the words, standard error may have notes after its lines. Without them, the bytes on it are those of
@@ -56,7 +55,7 @@ struct Reported<'a, F: Opener> {
 pub fn run_words<'a, F: Opener, R: Read, O: Write, E: Write>(
     alloc: Global,
     words: Vec<String>,
-    starts: Starts,
+    counts: Counts,
     files: UnnamedFiles<'a, F>,
     input: &mut Watched<R>,
     output: &mut Watched<O>,
@@ -64,8 +63,8 @@ pub fn run_words<'a, F: Opener, R: Read, O: Write, E: Write>(
 ) -> Finished<'a, F, E>
     ensures served { (plain : Option (List ℕ)) × IsShown (asks_for_notes (map string_bytes words.items)) (E.has_failed (device_of result.errors)) plain (E.contents (device_of result.errors))
         × CommandResult (files_of (F.content (opener_of files.entry)) (bytes_left F.content F.File.remaining (device_of result.files))) (map string_bytes words.items)
-        (failures 0 input.old output.old errors) (failures (failures_of result.files) input.new output.new result.errors) (stage (streams_of R.remaining O.contents E.contents input.old output.old errors) (starts_in starts))
-        (stage (streams (R.remaining (device_of input.new)) (O.contents (device_of output.new)) plain) (starts_in result.starts)) result.status }
+        (failures 0 input.old output.old errors) (failures (failures_of result.files) input.new output.new result.errors) (stage (streams_of R.remaining O.contents E.contents input.old output.old errors) (started_in counts))
+        (stage (streams (R.remaining (device_of input.new)) (O.contents (device_of output.new)) plain) (started_in result.counts)) result.status }
     ensures unread { ¬ (ReadsTheStandardInput (map string_bytes words.items)) → input.new ≡ input.old }
 {
     let asks = asks_for_notes(words.as_slice());
@@ -74,24 +73,24 @@ pub fn run_words<'a, F: Opener, R: Read, O: Write, E: Write>(
         let mut noted = errors.noting(alloc);
         let Reported {
             status,
-            starts,
+            counts,
             files,
-        } = run_reported(alloc, words, starts, files, input, output, &mut noted);
+        } = run_reported(alloc, words, counts, files, input, output, &mut noted);
         return Finished {
             status,
-            starts,
+            counts,
             files,
             errors: noted.into_noted(),
         };
     }
     let Reported {
         status,
-        starts,
+        counts,
         files,
-    } = run_reported(alloc, words, starts, files, input, output, &mut errors);
+    } = run_reported(alloc, words, counts, files, input, output, &mut errors);
     Finished {
         status,
-        starts,
+        counts,
         files,
         errors,
     }
@@ -101,7 +100,7 @@ pub fn run_words<'a, F: Opener, R: Read, O: Write, E: Write>(
 fn run_reported<'a, F: Opener, R: Read, O: Write, E: Write>(
     alloc: Global,
     words: Vec<String>,
-    starts: Starts,
+    counts: Counts,
     files: UnnamedFiles<'a, F>,
     input: &mut Watched<R>,
     output: &mut Watched<O>,
@@ -109,19 +108,19 @@ fn run_reported<'a, F: Opener, R: Read, O: Write, E: Write>(
 ) -> Reported<'a, F>
     ensures served { CommandResult (files_of (F.content (opener_of files.entry)) (bytes_left F.content F.File.remaining (device_of result.files))) (map string_bytes words.items)
         (failures 0 input.old output.old errors.old) (failures (failures_of result.files) input.new output.new errors.new)
-        (stage (streams_of R.remaining O.contents E.contents input.old output.old errors.old) (starts_in starts))
-        (stage (streams_of R.remaining O.contents E.contents input.new output.new errors.new) (starts_in result.starts)) result.status }
+        (stage (streams_of R.remaining O.contents E.contents input.old output.old errors.old) (started_in counts))
+        (stage (streams_of R.remaining O.contents E.contents input.new output.new errors.new) (started_in result.counts)) result.status }
     ensures unread { ¬ (ReadsTheStandardInput (map string_bytes words.items)) → input.new ≡ input.old }
 {
     let Ended {
         result,
-        starts,
+        counts,
         files,
-    } = run_command(alloc, words, starts, files, input, output, errors);
+    } = run_command(alloc, words, counts, files, input, output, errors);
     match result {
         Ok(status) => Reported {
             status,
-            starts,
+            counts,
             files,
         },
         Err(fault) => {
@@ -130,7 +129,7 @@ fn run_reported<'a, F: Opener, R: Read, O: Write, E: Write>(
             let status = report_noted(fault, note.as_deref(), errors);
             Reported {
                 status,
-                starts,
+                counts,
                 files,
             }
         }
@@ -141,47 +140,47 @@ fn run_reported<'a, F: Opener, R: Read, O: Write, E: Write>(
 fn run_command<'a, F: Opener, R: Read, O: Write, E: Write>(
     alloc: Global,
     words: Vec<String>,
-    starts: Starts,
+    counts: Counts,
     files: UnnamedFiles<'a, F>,
     input: &mut Watched<R>,
     output: &mut Watched<O>,
     errors: &mut Watched<E>,
 ) -> Ended<'a, F>
     ensures served { IfOk result.result (λ status. IsServed (files_of (F.content (opener_of files.entry)) (bytes_left F.content F.File.remaining (device_of result.files))) (map string_bytes words.items)
-        (stage (streams_of R.remaining O.contents E.contents input.old output.old errors.old) (starts_in starts))
-        (stage (streams_of R.remaining O.contents E.contents input.new output.new errors.new) (starts_in result.starts)) status) }
+        (stage (streams_of R.remaining O.contents E.contents input.old output.old errors.old) (started_in counts))
+        (stage (streams_of R.remaining O.contents E.contents input.new output.new errors.new) (started_in result.counts)) status) }
     ensures stopped { IfErr result.result (λ fault. IsStopped fault (files_of (F.content (opener_of files.entry)) (bytes_left F.content F.File.remaining (device_of result.files))) (map string_bytes words.items)
-        (stage (streams_of R.remaining O.contents E.contents input.old output.old errors.old) (starts_in starts))
-        (stage (streams_of R.remaining O.contents E.contents input.new output.new errors.new) (starts_in result.starts))) }
+        (stage (streams_of R.remaining O.contents E.contents input.old output.old errors.old) (started_in counts))
+        (stage (streams_of R.remaining O.contents E.contents input.new output.new errors.new) (started_in result.counts))) }
     ensures blamed { IfErr result.result (λ fault. IsBlamed fault (failures 0 input.old output.old errors.old) (failures (failures_of result.files) input.new output.new errors.new)) }
     ensures unread { ¬ (WordsNeedInput (map string_bytes words.items)) → input.new ≡ input.old }
 {
     let note = usage_note(alloc, words.as_slice());
     match config_of(alloc, words) {
-        Ok(config) => run_config(alloc, config, starts, files, input, output, errors),
+        Ok(config) => run_config(alloc, config, counts, files, input, output, errors),
         Err(UsageFault::Help) => Ended {
             result: write_text(HELP_TEXT, output),
-            starts,
+            counts,
             files: unread(alloc, files),
         },
         Err(UsageFault::Version) => Ended {
             result: write_text(VERSION_TEXT, output),
-            starts,
+            counts,
             files: unread(alloc, files),
         },
         Err(UsageFault::Usage) => Ended {
             result: refuse_words(note, errors),
-            starts,
+            counts,
             files: unread(alloc, files),
         },
         Err(UsageFault::Line(text)) => Ended {
             result: refuse(text.as_bytes(), 2, None, errors),
-            starts,
+            counts,
             files: unread(alloc, files),
         },
         Err(UsageFault::NoMemory) => Ended {
             result: Err(StreamFault::NoMemory),
-            starts,
+            counts,
             files: unread(alloc, files),
         },
     }

@@ -5,7 +5,6 @@ ghost use Rattle.jq_cli.specs.Configuration.{shown};
 ghost use Rattle.jq_devices.specs.Files.{bytes_left, opener_of};
 ghost use Rattle.jq_devices.specs.Watched.{HasFailed, device_of, failures_of};
 ghost use Rattle.jq_devices.specs.declared.faults.StreamFault.TheVariants.{Read as ReadFault, Write as WriteFault};
-ghost use Rattle.jq_starts.specs.Starts.{starts_in};
 ghost use Rattle.jq_stream.specs.Filters.{IsFilterOf};
 ghost use Rattle.jq_stream.specs.Streams.{streams_of};
 ghost use Rattle.jq_stream.specs.Failures.{AnOutputHasFailed, output_failures};
@@ -13,9 +12,10 @@ ghost use Rattle.jq_syntax.specs.Chosen.{Chosen, chosen};
 ghost use Rattle.jq_app.specs.Blaming.{IsBlamed, failures};
 ghost use Rattle.jq_app.specs.Filters.{FilterNeedsInput, HasRun, HasStopped, IsFilterDone, IsFilterStopped};
 ghost use Rattle.jq_app.specs.Served.{IsConfigurationDone, ReadsInput};
-ghost use Rattle.jq_app.specs.Stages.{files_of, stage};
+ghost use Rattle.jq_app.specs.Stages.{files_of, stage, started_in};
 ghost use Rattle.jq_app.specs.Stopped.{IsConfigurationStopped};
 
+use crate::counts::Counts;
 use crate::refusals::refuse_filter;
 use crate::sessions::run_session;
 use jq_cli::Config;
@@ -25,11 +25,11 @@ use jq_stream::{Filter, run_stream};
 use jq_syntax::Options;
 use std::alloc::Global;
 
-/// What a command returns, with the count of its starts and the reader of its files.
+/// What a command returns, with the counts of its starts and the reader of its files.
 #[derive(Drop)]
 pub(crate) struct Ended<'a, F: Opener> {
     pub(crate) result: Result<u8, StreamFault>,
-    pub(crate) starts: Starts,
+    pub(crate) counts: Counts,
     pub(crate) files: Watched<FileReader<'a, F>>,
 }
 
@@ -38,18 +38,18 @@ pub(crate) struct Ended<'a, F: Opener> {
 pub(crate) fn run_config<'a, F: Opener, R: Read, O: Write, E: Write>(
     alloc: Global,
     config: Config,
-    starts: Starts,
+    counts: Counts,
     files: UnnamedFiles<'a, F>,
     input: &mut Watched<R>,
     output: &mut Watched<O>,
     errors: &mut Watched<E>,
 ) -> Ended<'a, F>
     ensures done { IfOk result.result (λ status. IsConfigurationDone (files_of (F.content (opener_of files.entry)) (bytes_left F.content F.File.remaining (device_of result.files))) (shown config)
-        (stage (streams_of R.remaining O.contents E.contents input.old output.old errors.old) (starts_in starts))
-        (stage (streams_of R.remaining O.contents E.contents input.new output.new errors.new) (starts_in result.starts)) status) }
+        (stage (streams_of R.remaining O.contents E.contents input.old output.old errors.old) (started_in counts))
+        (stage (streams_of R.remaining O.contents E.contents input.new output.new errors.new) (started_in result.counts)) status) }
     ensures stopped { IfErr result.result (λ fault. IsConfigurationStopped fault (files_of (F.content (opener_of files.entry)) (bytes_left F.content F.File.remaining (device_of result.files))) (shown config)
-        (stage (streams_of R.remaining O.contents E.contents input.old output.old errors.old) (starts_in starts))
-        (stage (streams_of R.remaining O.contents E.contents input.new output.new errors.new) (starts_in result.starts))) }
+        (stage (streams_of R.remaining O.contents E.contents input.old output.old errors.old) (started_in counts))
+        (stage (streams_of R.remaining O.contents E.contents input.new output.new errors.new) (started_in result.counts))) }
     ensures blamed { IfErr result.result (λ fault. IsBlamed fault (failures 0 input.old output.old errors.old) (failures (failures_of result.files) input.new output.new errors.new)) }
     ensures unread { ¬ (ReadsInput (shown config)) → input.new ≡ input.old }
 {
@@ -67,22 +67,30 @@ pub(crate) fn run_config<'a, F: Opener, R: Read, O: Write, E: Write>(
     let text = filter.as_str();
     let no_file = names.as_slice().is_empty();
     let mut files = Watched::new(files.named(names));
-    let mut starts = starts;
+    let mut counts = counts;
     if live {
-        let (result, starts) = run_session(
-            alloc, text, options, follow, starts, &mut files, input, output, errors,
+        let (result, counts) = run_session(
+            alloc, text, options, follow, counts, &mut files, input, output, errors,
         );
         return Ended {
             result,
-            starts,
+            counts,
             files,
         };
     }
     if no_file {
-        let result = run_filter(alloc, text, options, &mut starts, input, output, errors);
+        let result = run_filter(
+            alloc,
+            text,
+            options,
+            &mut counts.starts,
+            input,
+            output,
+            errors,
+        );
         return Ended {
             result,
-            starts,
+            counts,
             files,
         };
     }
@@ -90,14 +98,14 @@ pub(crate) fn run_config<'a, F: Opener, R: Read, O: Write, E: Write>(
         alloc,
         text,
         options,
-        &mut starts,
+        &mut counts.starts,
         &mut files,
         output,
         errors,
     );
     Ended {
         result,
-        starts,
+        counts,
         files,
     }
 }

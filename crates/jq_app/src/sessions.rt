@@ -5,57 +5,79 @@ ghost use Rattle.std.specs.declared.option.Option.{Option};
 ghost use Rattle.jv_data.specs.View.{view};
 ghost use Rattle.jq_devices.specs.Watched.{HasFailed, device_of, failures_of};
 ghost use Rattle.jq_devices.specs.declared.faults.StreamFault.TheVariants.{Read as ReadFault, Write as WriteFault, NoMemory as MemoryFault};
-ghost use Rattle.jq_script.specs.Serving.{serving};
-ghost use Rattle.jq_session.specs.Sessions.{point_of};
+ghost use Rattle.jq_script.specs.Serving.{point_of, serving};
 ghost use Rattle.jq_session.specs.declared.refusals.Refusal.TheVariants as refusals;
-ghost use Rattle.jq_starts.specs.Starts.{starts_in};
 ghost use Rattle.jq_stream.specs.Streams.{streams_of};
-ghost use Rattle.jq_syntax.specs.Chosen.{Chosen, chosen};
+ghost use Rattle.jq_syntax.specs.Chosen.{Chosen, chosen, setting_of};
+ghost use Rattle.jq_syntax.specs.Compiled.{IsRefusal};
 ghost use Rattle.jq_stream.specs.Filters.{IsFilterOf};
 ghost use Rattle.jq_app.specs.Blaming.{IsBlamed, failures};
 ghost use Rattle.jq_app.specs.Sessions.{IsAccepted, IsSessionDone, IsSessionStopped, too_many};
-ghost use Rattle.jq_app.specs.Stages.{stage};
+ghost use Rattle.jq_app.specs.Stages.{stage, started_in};
 ghost use Rattle.jq_app.specs.private.Reports.{IsReport};
 ghost use Rattle.jq_app.specs.private.Served.{IsAnswered, IsCutOff};
 ghost use Rattle.jq_app.specs.private.Texts.{HaveTexts};
 
+use crate::counts::Counts;
 use crate::refusals::{refuse_filter, refuse_inputs};
 use jq_devices::{Read, StreamFault, Watched, Write};
-use jq_script::serve;
+use jq_script::{Host, copy_options, serve};
 use jq_session::laws::plans_are_by_the_tree;
 use jq_session::{Refusal, Session};
-use jq_starts::Starts;
 use jq_stream::{Filter, InputTexts, read_texts, report_fault};
-use jq_syntax::Options;
+use jq_syntax::{CompileFault, Options};
+use jv_data::NoMemory;
 use std::alloc::Global;
 
 /// Compiles a filter and serves a session over the texts of the files: the lines of the script are read from the input and
-/// answered. Returns the status of the process, and the count of starts.
+/// answered. Returns the status of the process, and the counts of starts.
 pub(crate) fn run_session<I: Read, R: Read, O: Write, E: Write>(
     alloc: Global,
     filter: &str,
     options: Options,
     follow: bool,
-    starts: Starts,
+    counts: Counts,
     files: &mut Watched<I>,
     input: &mut Watched<R>,
     output: &mut Watched<O>,
     errors: &mut Watched<E>,
-) -> (Result<u8, StreamFault>, Starts)
+) -> (Result<u8, StreamFault>, Counts)
     ensures done { IfOk result.0 (λ status. IsSessionDone (I.remaining (device_of files.old)) follow (chosen options) (chars filter.now)
-        (stage (streams_of R.remaining O.contents E.contents input.old output.old errors.old) (starts_in starts))
-        (stage (streams_of R.remaining O.contents E.contents input.new output.new errors.new) (starts_in result.1)) status) }
+        (stage (streams_of R.remaining O.contents E.contents input.old output.old errors.old) (started_in counts))
+        (stage (streams_of R.remaining O.contents E.contents input.new output.new errors.new) (started_in result.1)) status) }
     ensures stopped { IfErr result.0 (λ fault. IsSessionStopped fault (I.remaining (device_of files.old)) follow (chosen options) (chars filter.now)
-        (stage (streams_of R.remaining O.contents E.contents input.old output.old errors.old) (starts_in starts))
-        (stage (streams_of R.remaining O.contents E.contents input.new output.new errors.new) (starts_in result.1))) }
+        (stage (streams_of R.remaining O.contents E.contents input.old output.old errors.old) (started_in counts))
+        (stage (streams_of R.remaining O.contents E.contents input.new output.new errors.new) (started_in result.1))) }
     ensures blamed { IfErr result.0 (λ fault. IsBlamed fault (failures (failures_of files.old) input.old output.old errors.old) (failures (failures_of files.new) input.new output.new errors.new)) }
     ensures unread { ¬ (IsAccepted (chosen options) (chars filter.now)) → input.new ≡ input.old }
 {
-    match Filter::compile(alloc, filter, options) {
-        Ok(compiled) => serve_filter(
-            alloc, compiled, follow, starts, files, input, output, errors,
-        ),
-        Err(fault) => (refuse_filter(alloc, filter, fault, errors), starts),
+    match compile_keeping(alloc, filter, options) {
+        Ok(parts) => {
+            let (compiled, kept) = parts;
+            serve_filter(
+                alloc, compiled, kept, follow, counts, files, input, output, errors,
+            )
+        }
+        Err(fault) => (refuse_filter(alloc, filter, fault, errors), counts),
+    }
+}
+
+// Compiles a filter, and keeps a copy of its options.
+fn compile_keeping(
+    alloc: Global,
+    filter: &str,
+    options: Options,
+) -> Result<(Filter, Options), CompileFault>
+    ensures accepted { IfOk result (λ r. IsFilterOf (chosen options) (chars filter.now) r.0) }
+    ensures kept { IfOk result (λ r. chosen r.1 ≡ chosen options) }
+    ensures refused { IfErr result (IsRefusal (chars filter.now) (setting_of options)) }
+{
+    match copy_options(alloc, &options) {
+        Ok(kept) => match Filter::compile(alloc, filter, options) {
+            Ok(compiled) => Ok((compiled, kept)),
+            Err(fault) => Err(fault),
+        },
+        Err(NoMemory) => Err(CompileFault::NoMemory),
     }
 }
 
@@ -63,24 +85,27 @@ pub(crate) fn run_session<I: Read, R: Read, O: Write, E: Write>(
 fn serve_filter<I: Read, R: Read, O: Write, E: Write>(
     alloc: Global,
     filter: Filter,
+    options: Options,
     follow: bool,
-    starts: Starts,
+    counts: Counts,
     files: &mut Watched<I>,
     input: &mut Watched<R>,
     output: &mut Watched<O>,
     errors: &mut Watched<E>,
-) -> (Result<u8, StreamFault>, Starts)
-    ensures done { IfOk result.0 (λ status. (o : Chosen) (text : List ℕ) → IsFilterOf o text filter → IsSessionDone (I.remaining (device_of files.old)) follow o text
-        (stage (streams_of R.remaining O.contents E.contents input.old output.old errors.old) (starts_in starts))
-        (stage (streams_of R.remaining O.contents E.contents input.new output.new errors.new) (starts_in result.1)) status) }
-    ensures stopped { IfErr result.0 (λ fault. (o : Chosen) (text : List ℕ) → IsFilterOf o text filter → IsSessionStopped fault (I.remaining (device_of files.old)) follow o text
-        (stage (streams_of R.remaining O.contents E.contents input.old output.old errors.old) (starts_in starts))
-        (stage (streams_of R.remaining O.contents E.contents input.new output.new errors.new) (starts_in result.1))) }
+) -> (Result<u8, StreamFault>, Counts)
+    ensures done { IfOk result.0 (λ status. (o : Chosen) (text : List ℕ) → IsFilterOf o text filter → chosen options ≡ o → IsSessionDone (I.remaining (device_of files.old)) follow o text
+        (stage (streams_of R.remaining O.contents E.contents input.old output.old errors.old) (started_in counts))
+        (stage (streams_of R.remaining O.contents E.contents input.new output.new errors.new) (started_in result.1)) status) }
+    ensures stopped { IfErr result.0 (λ fault. (o : Chosen) (text : List ℕ) → IsFilterOf o text filter → chosen options ≡ o → IsSessionStopped fault (I.remaining (device_of files.old)) follow o text
+        (stage (streams_of R.remaining O.contents E.contents input.old output.old errors.old) (started_in counts))
+        (stage (streams_of R.remaining O.contents E.contents input.new output.new errors.new) (started_in result.1))) }
     ensures blamed { IfErr result.0 (λ fault. IsBlamed fault (failures (failures_of files.old) input.old output.old errors.old) (failures (failures_of files.new) input.new output.new errors.new)) }
 {
     match read_texts(alloc, files) {
-        Ok(texts) => serve_texts(alloc, filter, follow, starts, texts, input, output, errors),
-        Err(fault) => (Err(fault), starts),
+        Ok(texts) => serve_texts(
+            alloc, filter, options, follow, counts, texts, input, output, errors,
+        ),
+        Err(fault) => (Err(fault), counts),
     }
 }
 
@@ -88,51 +113,59 @@ fn serve_filter<I: Read, R: Read, O: Write, E: Write>(
 fn serve_texts<R: Read, O: Write, E: Write>(
     alloc: Global,
     filter: Filter,
+    options: Options,
     follow: bool,
-    starts: Starts,
+    counts: Counts,
     texts: InputTexts,
     input: &mut Watched<R>,
     output: &mut Watched<O>,
     errors: &mut Watched<E>,
-) -> (Result<u8, StreamFault>, Starts)
-    ensures done { IfOk result.0 (λ status. (files : Option (List ℕ)) (o : Chosen) (text : List ℕ) → HaveTexts files (map view texts.values.items) texts.fault → IsFilterOf o text filter
-        → IsSessionDone files follow o text (stage (streams_of R.remaining O.contents E.contents input.old output.old errors.old) (starts_in starts))
-        (stage (streams_of R.remaining O.contents E.contents input.new output.new errors.new) (starts_in result.1)) status) }
-    ensures stopped { IfErr result.0 (λ fault. (files : Option (List ℕ)) (o : Chosen) (text : List ℕ) → HaveTexts files (map view texts.values.items) texts.fault → IsFilterOf o text filter
-        → IsSessionStopped fault files follow o text (stage (streams_of R.remaining O.contents E.contents input.old output.old errors.old) (starts_in starts))
-        (stage (streams_of R.remaining O.contents E.contents input.new output.new errors.new) (starts_in result.1))) }
+) -> (Result<u8, StreamFault>, Counts)
+    ensures done { IfOk result.0 (λ status. (files : Option (List ℕ)) (o : Chosen) (text : List ℕ) → HaveTexts files (map view texts.values.items) texts.fault → IsFilterOf o text filter → chosen options ≡ o
+        → IsSessionDone files follow o text (stage (streams_of R.remaining O.contents E.contents input.old output.old errors.old) (started_in counts))
+        (stage (streams_of R.remaining O.contents E.contents input.new output.new errors.new) (started_in result.1)) status) }
+    ensures stopped { IfErr result.0 (λ fault. (files : Option (List ℕ)) (o : Chosen) (text : List ℕ) → HaveTexts files (map view texts.values.items) texts.fault → IsFilterOf o text filter → chosen options ≡ o
+        → IsSessionStopped fault files follow o text (stage (streams_of R.remaining O.contents E.contents input.old output.old errors.old) (started_in counts))
+        (stage (streams_of R.remaining O.contents E.contents input.new output.new errors.new) (started_in result.1))) }
     ensures blamed { IfErr result.0 (λ fault. (files : ℕ) → IsBlamed fault (failures files input.old output.old errors.old) (failures files input.new output.new errors.new)) }
 {
     let InputTexts { values, fault } = texts;
     if let Some(fault) = fault {
-        return (report_fault(alloc, fault, errors), starts);
+        return (report_fault(alloc, fault, errors), counts);
     }
     plans_are_by_the_tree();
-    match Session::start(alloc, starts, filter, values) {
-        Ok(session) => serve_session(alloc, follow, session, input, output),
-        Err(refused) => (refuse_start(refused.refusal, errors), refused.starts),
+    let Counts { starts, spare } = counts;
+    match Session::start(alloc, starts, options, filter, values) {
+        Ok(session) => serve_host(alloc, follow, Host::new(session, spare), input, output),
+        Err(refused) => (
+            refuse_start(refused.refusal, errors),
+            Counts {
+                starts: refused.starts,
+                spare,
+            },
+        ),
     }
 }
 
-// Serves a session, and returns the status and the session's count of starts.
-fn serve_session<R: Read, O: Write>(
+// Serves a session, and returns the status and the counts of starts.
+fn serve_host<R: Read, O: Write>(
     alloc: Global,
     follow: bool,
-    session: Session,
+    host: Host,
     input: &mut Watched<R>,
     output: &mut Watched<O>,
-) -> (Result<u8, StreamFault>, Starts)
-    ensures served { IfOk result.0 (λ status. IsAnswered follow status (serving (R.remaining (device_of input.old)) (O.contents (device_of output.old)) (point_of session))
-        (R.remaining (device_of input.new)) (O.contents (device_of output.new)) (starts_in result.1)) }
-    ensures stopped { IfErr result.0 (λ fault. IsCutOff follow fault (serving (R.remaining (device_of input.old)) (O.contents (device_of output.old)) (point_of session))
-        (R.remaining (device_of input.new)) (O.contents (device_of output.new)) (starts_in result.1)) }
+) -> (Result<u8, StreamFault>, Counts)
+    ensures served { IfOk result.0 (λ status. IsAnswered follow status (serving (R.remaining (device_of input.old)) (O.contents (device_of output.old)) (point_of host))
+        (R.remaining (device_of input.new)) (O.contents (device_of output.new)) (started_in result.1)) }
+    ensures stopped { IfErr result.0 (λ fault. IsCutOff follow fault (serving (R.remaining (device_of input.old)) (O.contents (device_of output.old)) (point_of host))
+        (R.remaining (device_of input.new)) (O.contents (device_of output.new)) (started_in result.1)) }
     ensures read_failed { IfErr result.0 (λ fault. fault ≡ ReadFault → HasFailed (failures_of input.old) (failures_of input.new)) }
     ensures write_failed { IfErr result.0 (λ fault. fault ≡ WriteFault → HasFailed (failures_of output.old) (failures_of output.new)) }
 {
-    let mut session = session;
-    let served = serve(alloc, follow, &mut session, input, output);
-    let starts = session.into_starts();
-    (status_of(served), starts)
+    let mut host = host;
+    let served = serve(alloc, follow, &mut host, input, output);
+    let (starts, spare) = host.into_starts();
+    (status_of(served), Counts { starts, spare })
 }
 
 // The status of a session that was served.

@@ -1,7 +1,6 @@
 use Rattle.std.proofs.Common.{inl, inr, refl}
-use Rattle.jq_starts.specs.Starts.{starts_in}
 use Rattle.jq_stream.specs.Streams.{streams_of}
-use Rattle.jq_app.specs.Stages.{stage}
+use Rattle.jq_app.specs.Stages.{stage, started_in}
 use Rattle.jq_app.proofs.Blaming.{later, written_unless_failed}
 use Rattle.jq_app.proofs.Outcomes.{err_at, ok_at}
 use Rattle.jq_app.proofs.commands.run_reported.Goals as goal
@@ -19,7 +18,7 @@ returns-in-Err-clause-served g c =
       outcome = inr (
         c.in-Err.fault,
         later c.in-Err.fault _ _ _ _ _ _ (err_at result c.in-Err.fault _ c.in-Err.is c.run_command-result.ensures.blamed) c.report_noted-status.ensures.kept,
-        stage (streams_of g.R.Read.remaining g.O.Write.contents g.E.Write.contents c.run_command-result.new.input c.run_command-result.new.output c.run_command-result.new.errors) (starts_in c.run_command-result.result.starts),
+        stage (streams_of g.R.Read.remaining g.O.Write.contents g.E.Write.contents c.run_command-result.new.input c.run_command-result.new.output c.run_command-result.new.errors) (started_in c.run_command-result.result.counts),
         err_at result c.in-Err.fault _ c.in-Err.is c.run_command-result.ensures.stopped,
         refl,
         refl,

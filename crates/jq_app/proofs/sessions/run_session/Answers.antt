@@ -1,39 +1,38 @@
 use Rattle.std.proofs.Common.{refl}
 use Rattle.std.specs.Str.{chars}
 use Rattle.jq_devices.specs.Watched.{device_of}
-use Rattle.jq_starts.specs.Starts.{starts_in}
 use Rattle.jq_stream.specs.Filters.{filter_job, filter_mode}
 use Rattle.jq_stream.specs.Streams.{streams_of}
 use Rattle.jq_syntax.specs.Chosen.{chosen}
 use Rattle.jv_meaning.proofs.shared.Results.{if_err_map, if_ok_map}
-use Rattle.jq_app.specs.Stages.{stage}
+use Rattle.jq_app.specs.Stages.{stage, started_in}
 use Rattle.jq_app.proofs.Blaming.{blamed_by_report}
 use Rattle.jq_app.proofs.FilterRefusals.{filter_refusal, session_refusal_stopped, session_refused}
 use Rattle.jq_app.proofs.Reporting.{report_answered, report_stopped}
 use Rattle.jq_app.proofs.sessions.run_session.Goals as goal
 
 pub returns-in-Ok-clause-done : goal.returns-in-Ok-clause-done
-returns-in-Ok-clause-done g c = if_ok_map c.serve_filter.result.0 c.serve_filter.ensures.done (λ answer done. done (chosen c.args.options) (chars c.args.filter.now) c.in-Ok.ensures.accepted)
+returns-in-Ok-clause-done g c = if_ok_map c.serve_filter.result.0 c.serve_filter.ensures.done (λ answer done. done (chosen c.args.options) (chars c.args.filter.now) c.in-Ok.ensures.accepted c.in-Ok.ensures.kept)
 
 pub returns-in-Ok-clause-stopped : goal.returns-in-Ok-clause-stopped
-returns-in-Ok-clause-stopped g c = if_err_map c.serve_filter.result.0 c.serve_filter.ensures.stopped (λ f stopped. stopped (chosen c.args.options) (chars c.args.filter.now) c.in-Ok.ensures.accepted)
+returns-in-Ok-clause-stopped g c = if_err_map c.serve_filter.result.0 c.serve_filter.ensures.stopped (λ f stopped. stopped (chosen c.args.options) (chars c.args.filter.now) c.in-Ok.ensures.accepted c.in-Ok.ensures.kept)
 
 pub returns-in-Ok-clause-unread : goal.returns-in-Ok-clause-unread
-returns-in-Ok-clause-unread g c = λ none. absurd (none (filter_mode c.in-Ok.compiled, filter_job c.in-Ok.compiled, c.in-Ok.ensures.accepted.accepted.accepts))
+returns-in-Ok-clause-unread g c = λ none. absurd (none (filter_mode c.in-Ok.parts.0, filter_job c.in-Ok.parts.0, c.in-Ok.ensures.accepted.accepted.accepts))
 
 pub returns-in-Err-clause-done : goal.returns-in-Err-clause-done
 returns-in-Err-clause-done g c =
     let f = c.in-Err.fault in
-    let old = stage (streams_of g.R.Read.remaining g.O.Write.contents g.E.Write.contents c.args.input.now c.args.output.now c.args.errors.now) (starts_in c.args.starts) in
-    let new = stage (streams_of g.R.Read.remaining g.O.Write.contents g.E.Write.contents c.args.input.now c.args.output.now c.refuse_filter.new.errors) (starts_in c.args.starts) in
+    let old = stage (streams_of g.R.Read.remaining g.O.Write.contents g.E.Write.contents c.args.input.now c.args.output.now c.args.errors.now) (started_in c.args.counts) in
+    let new = stage (streams_of g.R.Read.remaining g.O.Write.contents g.E.Write.contents c.args.input.now c.args.output.now c.refuse_filter.new.errors) (started_in c.args.counts) in
     session_refused c.refuse_filter.result (g.I.Read.remaining (device_of c.args.files.now)) c.args.follow (chosen c.args.options) (chars c.args.filter.now) f old new (refl, refl) c.in-Err.ensures.refused
     c.refuse_filter.ensures.memory (report_answered c.refuse_filter.result (filter_refusal f).errors 3 (g.O.Write.contents (device_of c.args.output.now)) _ _ c.refuse_filter.ensures.report)
 
 pub returns-in-Err-clause-stopped : goal.returns-in-Err-clause-stopped
 returns-in-Err-clause-stopped g c =
     let f = c.in-Err.fault in
-    let old = stage (streams_of g.R.Read.remaining g.O.Write.contents g.E.Write.contents c.args.input.now c.args.output.now c.args.errors.now) (starts_in c.args.starts) in
-    let new = stage (streams_of g.R.Read.remaining g.O.Write.contents g.E.Write.contents c.args.input.now c.args.output.now c.refuse_filter.new.errors) (starts_in c.args.starts) in
+    let old = stage (streams_of g.R.Read.remaining g.O.Write.contents g.E.Write.contents c.args.input.now c.args.output.now c.args.errors.now) (started_in c.args.counts) in
+    let new = stage (streams_of g.R.Read.remaining g.O.Write.contents g.E.Write.contents c.args.input.now c.args.output.now c.refuse_filter.new.errors) (started_in c.args.counts) in
     session_refusal_stopped c.refuse_filter.result (g.I.Read.remaining (device_of c.args.files.now)) c.args.follow (chosen c.args.options) (chars c.args.filter.now) f old new (refl, refl)
     c.in-Err.ensures.refused c.refuse_filter.ensures.memory
     (report_stopped c.refuse_filter.result (filter_refusal f).errors 3 (g.R.Read.remaining (device_of c.args.input.now)) (g.O.Write.contents (device_of c.args.output.now)) _ _ c.refuse_filter.ensures.report)

@@ -1,28 +1,27 @@
 use Rattle.jq_devices.specs.Watched.{device_of, failures_of}
-use Rattle.jq_starts.specs.Starts.{starts_in}
 use Rattle.jq_stream.specs.Streams.{streams_of}
 use Rattle.jv_meaning.proofs.shared.Results.{if_err_map, if_ok_map}
 use Rattle.jq_app.specs.Blaming.{failures}
-use Rattle.jq_app.specs.Stages.{stage}
+use Rattle.jq_app.specs.Stages.{stage, started_in}
 use Rattle.jq_app.proofs.Blaming.{read_by_files, same_files}
 use Rattle.jq_app.proofs.Live.{stopped_before}
 use Rattle.jq_app.proofs.sessions.serve_filter.Goals as goal
 
 pub returns-in-Ok-clause-done : goal.returns-in-Ok-clause-done
 returns-in-Ok-clause-done g c =
-    if_ok_map c.serve_texts.result.0 c.serve_texts.ensures.done (λ answer done o text h. done (g.I.Read.remaining (device_of c.args.files.now)) o text c.in-Ok.ensures.texts h)
+    if_ok_map c.serve_texts.result.0 c.serve_texts.ensures.done (λ answer done o text h chose. done (g.I.Read.remaining (device_of c.args.files.now)) o text c.in-Ok.ensures.texts h chose)
 
 pub returns-in-Ok-clause-stopped : goal.returns-in-Ok-clause-stopped
 returns-in-Ok-clause-stopped g c =
-    if_err_map c.serve_texts.result.0 c.serve_texts.ensures.stopped (λ f stopped o text h. stopped (g.I.Read.remaining (device_of c.args.files.now)) o text c.in-Ok.ensures.texts h)
+    if_err_map c.serve_texts.result.0 c.serve_texts.ensures.stopped (λ f stopped o text h chose. stopped (g.I.Read.remaining (device_of c.args.files.now)) o text c.in-Ok.ensures.texts h chose)
 
 pub returns-in-Ok-clause-blamed : goal.returns-in-Ok-clause-blamed
 returns-in-Ok-clause-blamed g c = same_files c.serve_texts.result.0 _ _ _ _ _ _ _ _ c.in-Ok.ensures.unfailed c.serve_texts.ensures.blamed
 
 pub returns-in-Err-clause-stopped : goal.returns-in-Err-clause-stopped
-returns-in-Err-clause-stopped g c = λ o text h.
+returns-in-Err-clause-stopped g c = λ o text h chose.
     stopped_before c.in-Err.fault (g.I.Read.remaining (device_of c.args.files.now)) c.args.follow o text
-    (stage (streams_of g.R.Read.remaining g.O.Write.contents g.E.Write.contents c.args.input.now c.args.output.now c.args.errors.now) (starts_in c.args.starts)) c.in-Err.ensures.fault
+    (stage (streams_of g.R.Read.remaining g.O.Write.contents g.E.Write.contents c.args.input.now c.args.output.now c.args.errors.now) (started_in c.args.counts)) c.in-Err.ensures.fault
 
 pub returns-in-Err-clause-blamed : goal.returns-in-Err-clause-blamed
 returns-in-Err-clause-blamed g c =
