@@ -21,7 +21,7 @@ import threading
 import time
 
 from program import SECONDS, read_within, run_tests, send, start, talk
-from random_scripts import answers_of, compare, spliced
+from random_scripts import answers_of, compare, followed
 
 LONGEST_LINE, MOST_INPUTS, MIB = 16_777_216, 1_000_000, 1 << 20
 ROOM = 100 * MIB  # the most memory of a session that keeps nothing but a line
@@ -79,6 +79,9 @@ def each_answer_comes_before_the_next_line(program):
         (b"append [\n", b"refused 21\n"),
         (b"status\n", b"status 0\n"),
         (b"show\n", b"out 5\n{}\n1\n"),
+        (b"filter type\n", b"ok 0\n"),
+        (b"filter type)\n", b"refused 11\n"),
+        (b"show\n", b"out 18\n\"object\"\n\"number\"\n"),
     ]
     return talk(program, ["--live", "-c", "."], turns)
 
@@ -137,6 +140,10 @@ def an_edit_that_changes_more_bytes_than_a_pipe_holds(program):
             ask(process, b"append 1\n", b"ok 0\nout 1200000 0 3\na\nberr 0 0 0\n")
             ask(process, b"remove 0\n", b"ok 0\nout 0 1200000 0\nerr 0 0 0\n")
             ask(process, b"remove 0\n", b"ok 0\nout 0 3 0\nerr 0 0 0\n")
+            ask(process, b"append 400000\n", b"ok 0\nout 0 0 1200000\n" + b"a\nb" * 400_000 + b"err 0 0 0\n")
+            ask(process, b"filter empty\n", b"ok 0\nout 0 1200000 0\nerr 0 0 0\n")
+            ask(process, b'filter "a\\nb" * .\n', b"ok 0\nout 0 0 1200000\n" + b"a\nb" * 400_000 + b"err 0 0 0\n")
+            ask(process, b"remove 0\n", b"ok 0\nout 0 1200000 0\nerr 0 0 0\n")
         return differ(end_of(process), (b"", b"", 0))
 
 
@@ -174,8 +181,10 @@ def an_output_that_nobody_reads_is_not_missed(program):
 def an_output_without_room(program):
     """Where an output file can take no more bytes, it has the first bytes of the answers, and the write fault ends the session."""
     told = b'jq: error: Cannot index number with "a"\n'
-    return fault_without_room(program, [], b"show\nerrors\n", b"out 6\n12345\nerr 40\n" + told) or fault_without_room(
-        program, ["--follow"], b'insert 1 2\nreplace 2 {"a":6}\n', b"ok 5\nout 0 0 0\nerr 40 0 40\n" + told + b"ok 5\nout 0 6 2\n6\nerr 80 0 0\n"
+    return (
+        fault_without_room(program, [], b"show\nerrors\n", b"out 6\n12345\nerr 40\n" + told)
+        or fault_without_room(program, ["--follow"], b'insert 1 2\nreplace 2 {"a":6}\n', b"ok 5\nout 0 0 0\nerr 40 0 40\n" + told + b"ok 5\nout 0 6 2\n6\nerr 80 0 0\n")
+        or fault_without_room(program, ["--follow"], b"filter .[0]?, 7\n", b"ok 0\nout 0 6 4\n7\n7\nerr 0 40 0\n")
     )
 
 
@@ -240,6 +249,20 @@ def the_longest_texts_of_lines(program):
         ask(process, b"show\n", b"out 9\n16777207\n")
         send_long(process, b'replace 0 "', LONGEST_LINE, b'"')
         return differ(end_of(process), (b"ok 0\n", b"", 0))
+
+
+def the_longest_filters_of_lines(program):
+    """A filter that makes a line of 16,777,216 bytes is taken, and one byte more is refused unseen."""
+    with started(program, ".") as process:
+        ask(process, b"append 1\n", b"ok 0\n")
+        send_long(process, b"filter . + 1 #", LONGEST_LINE, b"")
+        ask(process, b"\n", b"ok 0\n")
+        send_long(process, b"filter . + 2 #", LONGEST_LINE + 1, b"")
+        ask(process, b"\n", b"refused 0\n")
+        ask(process, b"show\n", b"out 2\n2\n")
+        send_long(process, b"filter .", LONGEST_LINE, b"\xff")
+        ask(process, b"\n", b"refused 10\n")
+        return differ(end_of(process), (b"", b"", 0))
 
 
 def long_lines_take_little_memory(program):
@@ -311,29 +334,32 @@ def changes_among_a_thousand_inputs(program):
     return None
 
 
+# Options, and filters that take turns under them.
 FOLLOWED = [
-    ["-c", "."],
-    [". as $x | if $x % 3 == 0 then error else $x end"],
-    ["-n", "foreach inputs as $x (0; . + $x)"],
-    ["-n", "foreach inputs as $x (null; $x)"],
-    ["-n", "reduce inputs as $x (0; [., $x] | max) | ., error"],
-    ["-n", "foreach inputs as $x (0; . + 1; if $x == 77 then error else select(. % 2 == 0) end)"],
-    ["-s", "add, .[0]"],
-    ["if . == 77 then halt_error(1) else . end"],
+    (["-c"], [".", "[., .]"]),
+    ([], [". as $x | if $x % 3 == 0 then error else $x end", "if . == 77 then halt_error(1) else . end", ". * 2"]),
+    (["-n"], ["foreach inputs as $x (0; . + $x)", "foreach inputs as $x (null; $x)", "7, error"]),
+    (["-n"], ["reduce inputs as $x (0; [., $x] | max) | ., error", "[limit(3; inputs)]", "inputs"]),
+    (["-n"], ["foreach inputs as $x (0; . + 1; if $x == 77 then error else select(. % 2 == 0) end)", "reduce inputs as $x ([]; [$x] + .[:70])"]),
+    (["-s"], ["add, .[0]", "length, .[999]"]),
 ]
 
 
-def clients_follow_edits_of_many_inputs(program):
-    """Edits of 1,000 inputs: after each of them the client that applies the splices has what `show` and `errors` answer."""
+def a_change(rng, filters):
+    """A line that changes a session over about 1,000 numbers."""
+    number = rng.choice([77, *range(70)])
+    lines = [f"insert {rng.randrange(970)} {number}", f"replace {rng.randrange(970)} {number}", f"remove {rng.randrange(970)}", f"append {number}"]
+    return f"filter {rng.choice(filters)}" if rng.random() < 0.1 else rng.choice(lines)
+
+
+def clients_follow_changes_of_many_inputs(program):
+    """Edits of 1,000 inputs, and other filters: after each of them the client that applies the splices has what `show` and `errors`
+    answer."""
     rng = random.Random(3)
     with tempfile.TemporaryDirectory() as folder:
         pathlib.Path(folder, "a").write_text("\n".join(str(rng.randrange(70)) for _ in range(1000)))
-        for words in FOLLOWED:
-            lines = []
-            for _ in range(60):
-                number = rng.choice([77, *range(70)])
-                edits = [f"insert {rng.randrange(990)} {number}", f"replace {rng.randrange(990)} {number}", f"remove {rng.randrange(990)}", f"append {number}"]
-                lines.append(rng.choice(edits))
+        for options, filters in FOLLOWED:
+            words, lines = [*options, filters[0]], [a_change(rng, filters) for _ in range(90)]
             script = "show\nerrors\n" + "".join(f"{line}\nshow\nerrors\n" for line in lines)
             with started(program, "--follow", *words, "a", cwd=folder) as process:
                 out, told = process.communicate(script.encode(), timeout=SECONDS)
@@ -342,7 +368,7 @@ def clients_follow_edits_of_many_inputs(program):
                 return f"{words}: {len(answers)} answers, {told!r}, status {process.returncode}"
             client = [answers[0][2], answers[1][2]]
             for line, edit, output, errors in zip(lines, answers[2::3], answers[3::3], answers[4::3]):
-                client = [spliced(data, splice) for data, splice in zip(client, edit[2])]
+                client = followed(client, edit[2])
                 if client != [output[2], errors[2]]:
                     return f"{words}: after {line!r} the client has other bytes"
     return None
@@ -366,6 +392,7 @@ def a_million_inputs_and_no_more(program):
             ask(process, b"append 1\nreplace %d 2\n" % last, b"refused 22\nok 0\n")
             ask(process, b"remove 0\ninsert %d 1\n" % (last + 1), b"ok 0\nrefused 20\n")
             ask(process, b"insert %d 1\nappend 1\nshow\n" % last, b"ok 0\nrefused 22\nout 2\n7\n")
+            ask(process, b"filter 8\nappend 1\nshow\n", b"ok 0\nrefused 22\nout 2\n8\n")
     for more, line in [(b"1", b"too many inputs"), (b"1 ]", b"input at byte %d: malformed text" % (2 * MOST_INPUTS + 2))]:
         got = told_at_once(program, ["-n", "7", "a"], {"a": [*texts, more]})
         if got != (b"", b"jq: error: " + line + b"\n", 2, 0):
@@ -386,11 +413,12 @@ TESTS = [
     an_output_without_room,
     lines_of_the_greatest_length,
     the_longest_texts_of_lines,
+    the_longest_filters_of_lines,
     long_lines_take_little_memory,
     a_script_is_not_read_where_it_cannot_be_served,
     files_are_read_before_the_script,
     changes_among_a_thousand_inputs,
-    clients_follow_edits_of_many_inputs,
+    clients_follow_changes_of_many_inputs,
     a_million_inputs_and_no_more,
 ]
 

@@ -3,11 +3,11 @@
 
     tests/random_scripts.py [--program ./jql] [--count 1000] [--seed 1]
 
-A script has options, a filter, first inputs in files, edits with and without faults, and at some places `show`, `errors`
-and `status`. Each refusal has to be the one wanted, and what is shown has to be what tests/reference.py writes in runs from
-scratch on the inputs that are present there, which are kept here. Half of the scripts run with `--follow`: `show` and
-`errors` come first and after each edit, and a client that applies the splices of the answers has to have their bytes. The
-same seed gives the same scripts. The last line is 'N passed, M failed'.
+A script has options, a filter, first inputs in files, edits and other filters with and without faults, and at some
+places `show`, `errors` and `status`. Each refusal has to be the one wanted, and what is shown has to be what
+tests/reference.py writes in runs from scratch of the present filter on the present inputs, which are kept here. Half of the
+scripts run with `--follow`: `show` and `errors` come first and after each edit and filter, and a client that applies
+the splices of the answers has to have their bytes. The same seed gives the same scripts. The last line is 'N passed, M failed'.
 """
 import argparse
 import concurrent.futures
@@ -68,21 +68,26 @@ TEXTS = [
     "null", "false", "true", "0", "1", "2", "3", "-1", "1e2", "-0", "9223372036854775807", '"a"', '"b"', '""', '"ü\\n"', '"\\u0041 b"', "[]", "{}",
     "[1,2]", '["a"]', "[null,1]", '{"a":1}', '{"a":{"b":2}}', '{"b":[3],"a":null}', '{"a":1,"a":"x"}', "[[1],[2,[3]]]", " [ 1 , 2 ] ", "\t7\r",
 ]  # fmt: skip
+BAD_FILTERS = [  # with the number of their refusal under all options
+    ('"\\x"', 10), ("`", 10), ('. + "\\x" )', 10), (". *", 11), (")", 11), ("nothing, (", 11), ("." + " | ." * 5000, 12), ("(" * 257 + ")", 13),
+    ("nothing", 14), ("$y", 14), ("break $a", 14), ("@nothing", 14), ("map(nothing; 1)", 14), ("$y, inputs, inputs", 14), ("inputs, inputs", 15), ("[.[] | inputs]", 15),
+]  # fmt: skip
 BAD_TEXTS = ["", " ", "[1", "1 2", "1,", "]", "{", '{"a"}', '"a', "nan", "tru", "1.5", "01", "'a'", "9223372036854775808", '"\\x"', "1]", "\ufeff1"]
 BAD_PLACES = ["", "x", "-1", "+0", "1.0", "00000000000000000000", " 0", "0x0"]
 NO_REQUESTS = [
     "", " ", "hello", "show ", " show", "status 0", "errors x", "append", "insert", "insert 0", "replace 0", "remove", "remove ", "remove 0 ",
-    "remove  0", "remove 0 1", "insert  0 1", "INSERT 0 1", "append\t1", "move 0 0", "show\r", "ok 0", "1",
+    "remove  0", "remove 0 1", "insert  0 1", "INSERT 0 1", "append\t1", "show\r", "ok 0", "1", "move 0 0", "filter", "filter.", "Filter .",
 ]  # fmt: skip
 
 
 class Script:
-    """A script, and the answers that are wanted: a refusal's number, or the inputs that are present after an accepted line."""
+    """A script, and the answers that are wanted: a refusal's number, or the filter and the inputs that are present after a line."""
 
     def __init__(self, rng):
         self.rng, self.lines, self.wants = rng, [], []
-        options, filters = rng.choice(PLACES)
-        self.words = [*options, *ALWAYS, "--depth", rng.choice(DEPTHS), rng.choice(filters)]
+        options, self.filters = rng.choice(PLACES)
+        self.words = [*options, *ALWAYS, "--depth", rng.choice(DEPTHS)]
+        self.first_filter = self.filter = rng.choice(self.filters)
         self.follow = rng.random() < 0.5
         self.texts = rng.sample(TEXTS, rng.randrange(1, 7))  # few, so that some edits make all runs end well
         most = rng.choice([4] * 9 + [200])  # some sessions have several pages of 64 inputs
@@ -92,22 +97,25 @@ class Script:
             self.show()
         for _ in range(rng.randrange(1, 4)):
             for _ in range(rng.randrange(8)):
-                self.edit()
+                self.change()
                 if self.follow:
                     self.show()
             self.look()
 
     def show(self):
         for line in ("show", "errors"):
-            self.add(line, tuple(self.inputs))
+            self.accept(line)
 
     def add(self, line, want):
         self.lines.append(line)
         self.wants.append(want)
 
+    def accept(self, line):
+        self.add(line, (self.filter, tuple(self.inputs)))
+
     def look(self):
         for line in self.rng.sample(["show", "errors", "status"], 3):
-            self.add(line, tuple(self.inputs))
+            self.accept(line)
 
     def place(self, limit):
         """A place as it is written, and whether it is below the limit (None: it is no place)."""
@@ -116,10 +124,23 @@ class Script:
         place = self.rng.choice([limit, limit + 1, 10**19 - 1]) if self.rng.random() < 0.15 or not limit else self.rng.randrange(limit)
         return str(place).zfill(self.rng.choice([1, 1, 1, 2, 19])), place < limit
 
-    def edit(self):
-        kind = self.rng.choice(["insert", "insert", "replace", "replace", "remove", "remove", "append", "append", "no request"])
+    def change(self):
+        kind = self.rng.choice(["insert"] * 2 + ["replace"] * 2 + ["remove"] * 2 + ["append"] * 2 + ["filter", "no request"])
         if kind == "no request":
-            return self.add(self.rng.choice(NO_REQUESTS), UNKNOWN)
+            self.add(self.rng.choice(NO_REQUESTS), UNKNOWN)
+        elif kind == "filter":
+            self.take()
+        else:
+            self.edit(kind)
+
+    def take(self):
+        if self.rng.random() < 0.25:
+            text, refusal = self.rng.choice(BAD_FILTERS)
+            return self.add(f"filter {text}", refusal)
+        self.filter = self.rng.choice([*self.filters, ""])
+        return self.accept(f"filter {self.filter}")
+
+    def edit(self, kind):
         count, is_bad = len(self.inputs), self.rng.random() < 0.15
         text = self.rng.choice(BAD_TEXTS if is_bad else self.texts)
         written, has_place = ("", True) if kind == "append" else self.place(count + (kind == "insert"))
@@ -132,7 +153,7 @@ class Script:
             return self.add(line, BAD_TEXT)
         at = count if kind == "append" else int(written)
         self.inputs[at : at + (kind in ("replace", "remove"))] = [] if kind == "remove" else [text]
-        return self.add(line, tuple(self.inputs))
+        return self.accept(line)
 
     def files_in(self, folder):
         """Writes the files of the first inputs into a folder, and answers their names."""
@@ -142,7 +163,7 @@ class Script:
         return names
 
     def __str__(self):
-        return f"{self.words}{' --follow' * self.follow} over {self.files}: {self.lines}"
+        return f"{self.words} {self.first_filter!r}{' --follow' * self.follow} over {self.files}: {self.lines}"
 
 
 # ---- running and comparing
@@ -168,9 +189,16 @@ def splice_at(data, at, word):
     return (int(head[2]), int(head[3]), put), head.end() + len(put)
 
 
+def splices_at(data, at):
+    """The splices from there on, of the output and of the errors, and where they end."""
+    out, at = splice_at(data, at, b"out")
+    err, at = splice_at(data, at, b"err")
+    return [out, err], at
+
+
 def answers_of(data, follow=False):
-    """The answers in these bytes, as triples of a word, a number and the bytes that follow. With `follow` two splices follow an
-    accepted edit."""
+    """The answers in these bytes, as triples of a word, a number and the bytes that follow. With `follow` splices follow an
+    accepted line: those of the output and of the errors."""
     found, at = [], 0
     while at < len(data):
         head = HEAD.match(data, at)
@@ -178,9 +206,8 @@ def answers_of(data, follow=False):
             raise ValueError(f"no answer: {data[at : at + 60]!r}")
         word, number = head[1].decode(), int(head[2])
         if word == "ok" and follow:
-            out, at = splice_at(data, head.end(), b"out")
-            err, at = splice_at(data, at, b"err")
-            found.append((word, number, (out, err)))
+            splices, at = splices_at(data, head.end())
+            found.append((word, number, splices))
             continue
         body = bytes_at(data, head, number if word in ("out", "err") else 0)
         at = head.end() + len(body)
@@ -196,21 +223,33 @@ def spliced(data, splice):
     return data[:at] + put + data[at + cut :]
 
 
+def followed(client, splices):
+    """The output and the errors after these splices."""
+    return [spliced(data, splice) for data, splice in zip(client, splices)]
+
+
 def session(program, script):
     """What the session of a script writes, and its status."""
     with tempfile.TemporaryDirectory() as folder:
-        words = ["--live", *["--follow"] * script.follow, *script.words, *script.files_in(folder)]
+        words = ["--live", *["--follow"] * script.follow, *script.words, script.first_filter, *script.files_in(folder)]
         text = "\n".join(script.lines) + script.rng.choice(["", "\n"])
         done = subprocess.run([program, *words], input=text.encode(), capture_output=True, timeout=SECONDS, cwd=folder)
         return done.stdout, done.stderr, done.returncode
 
 
 def from_scratch(words):
-    """What the reference writes for some texts in runs from scratch, and its status."""
-    left, variables = reference.take_variables(words)
-    given, text, _ = reference.options_of(left)
-    command = reference.Command(given, text, [], variables)
-    return functools.lru_cache(None)(lambda texts: command.outcome([reference.read_text(text.encode()) for text in texts]))
+    """What the reference writes in runs of a filter from scratch on some texts, and its status."""
+    left, variables = reference.take_variables([*words, "."])
+    given, _, _ = reference.options_of(left)
+    command = functools.lru_cache(None)(lambda text: reference.Command(given, text, [], variables))
+    return functools.lru_cache(None)(lambda filter_text, texts: command(filter_text).outcome([reference.read_text(text.encode()) for text in texts]))
+
+
+def fault_of_splices(line, client, splices):
+    """What is wrong with the splices that answer a line: those of another filter replace everything."""
+    if line.startswith("filter") and any(splice[:2] != (0, len(data)) for data, splice in zip(client, splices)):
+        return f"{splices} after {client}"
+    return None
 
 
 def faults_of(program, script):
@@ -228,11 +267,13 @@ def faults_of(program, script):
             if answer != ("refused", want, b""):
                 return f"line {number}, {line!r}: got {answer}; wanted refusal {want}"
             continue
-        output, errors, status = scratch(want)
+        output, errors, status = scratch(*want)
         if number < 2 and script.follow:
             client[number] = answer[2]  # the output and the errors of the first inputs
         elif script.follow and answer[0] == "ok":
-            client = [spliced(data, splice) for data, splice in zip(client, answer[2])]
+            if fault := fault_of_splices(line, client, answer[2]):
+                return f"line {number}, {line!r}: {fault}"
+            client = followed(client, answer[2])
             answer = (*answer[:2], b"")
         shown = {"show": ("out", len(output), output), "errors": ("err", len(errors), errors), "status": ("status", status, b"")}
         if answer != shown.get(line, ("ok", status, b"")) or script.follow and number and client != [output, errors]:

@@ -2082,7 +2082,7 @@ class Command:
 
     def serve(self):
         try:
-            session = Session(self, self.first_inputs(), "halt" in self.text)
+            session = Session(self, self.first_inputs())
             with open(0, "rb", closefd=False) as script:
                 for line in script:
                     sys.stdout.buffer.write(session.answer(line.removesuffix(b"\n")))
@@ -2114,7 +2114,12 @@ class Command:
 # ---- the session
 
 MOST_INPUTS, LONGEST_LINE = 1_000_000, 16_777_216
-EDITS = {b"insert": 2, b"replace": 2, b"remove": 1, b"append": 1}
+# How many parts come after the word of a line.
+PARTS = {b"insert": 2, b"replace": 2, b"remove": 1, b"append": 1, b"filter": 1}
+# The numbers of a refused filter, by words of its refusal.
+FILTER_REFUSALS = {
+    "bad token at": 10, "syntax error": 11, "more than 8192 tokens": 12, "more than 256 open": 13, " is not defined": 14, "inputs stands": 15, "inputs needs": 16,
+}  # fmt: skip
 
 
 class Full(Exception):
@@ -2126,26 +2131,38 @@ def splices_of(before, gone, come):
     return b"".join(b"%s %d %d %d\n" % (word, len(a), len(b), len(c)) + c for word, a, b, c in zip((b"out", b"err"), before, gone, come))
 
 
+def place_of(part):
+    """The number of an input that a part of a line is."""
+    return int(part) if re.fullmatch(rb"[0-9]{1,19}", part) else None
+
+
 class Session:
     """A filter over inputs that are edited. After each edit it runs over all of them anew. Where its runs on the inputs do not
     depend on each other, an edit changes what the edited input wrote, else all that was written."""
 
-    def __init__(self, command, inputs, halts):
-        self.command, self.inputs = command, inputs
-        self.is_apart = not (halts or command.given.get("null-input") or command.given.get("slurp"))
-        self.output, self.errors, self.status = command.outcome(inputs)
+    def __init__(self, command, inputs):
+        self.inputs, self.splices = inputs, b""
+        self.take(command)
+
+    def take(self, command):
+        """Runs a filter over the present inputs."""
+        self.command = command
+        self.is_apart = not ("halt" in command.text or command.given.get("null-input") or command.given.get("slurp"))
+        self.output, self.errors, self.status = command.outcome(self.inputs)
+
+    def tell(self, before, gone, come):
+        if self.command.given.get("follow"):
+            self.splices += splices_of(before, gone, come)
 
     def change(self, place, taken, values):
         """Replaces so many inputs from a place on by these, and keeps the splices of the output and of the errors."""
         old, before, gone = (self.output, self.errors), self.inputs[:place], self.inputs[place : place + taken]
         self.inputs = before + values + self.inputs[place + taken :]
         self.output, self.errors, self.status = self.command.outcome(self.inputs)
-        if not self.command.given.get("follow"):
-            self.splices = b""
-        elif self.is_apart:
-            self.splices = splices_of(*(self.command.outcome(some) for some in (before, gone, values)))
+        if self.is_apart:
+            self.tell(*(self.command.outcome(some) for some in (before, gone, values)))
         else:
-            self.splices = splices_of((b"", b""), old, (self.output, self.errors))
+            self.tell((b"", b""), old, (self.output, self.errors))
 
     def answer(self, line):
         if line == b"show":
@@ -2154,32 +2171,46 @@ class Session:
             return b"err %d\n" % len(self.errors) + self.errors
         if line == b"status":
             return b"status %d\n" % self.status
-        refusal = self.edit(line)
+        self.splices = b""
+        refusal = self.follow(line)
         return b"ok %d\n" % self.status + self.splices if refusal is None else b"refused %d\n" % refusal
 
-    def edit(self, line):
-        """Makes the edit that a line asks for, or answers the number of its refusal."""
-        word, *parts = line.split(b" ", EDITS.get(line.partition(b" ")[0], 0))
-        if len(line) > LONGEST_LINE or len(parts) != EDITS.get(word):
+    def follow(self, line):
+        """Does what a line asks for, or answers the number of its refusal."""
+        word, *parts = line.split(b" ", PARTS.get(line.partition(b" ")[0], 0))
+        if len(line) > LONGEST_LINE or len(parts) != PARTS.get(word):
             return 0
-        count = len(self.inputs)
-        if word != b"append":
-            place = parts.pop(0)
-            if not re.fullmatch(rb"[0-9]{1,19}", place):
-                return 0
-            place = int(place)
-        else:
-            place = count
-        is_new = word in (b"insert", b"append")
+        if word == b"filter":
+            return self.filter(*parts)
+        return self.edit(word, len(self.inputs) if word == b"append" else place_of(parts.pop(0)), parts)
+
+    def edit(self, word, place, texts):
+        if place is None:
+            return 0
+        count, is_new = len(self.inputs), word in (b"insert", b"append")
         if place > count or place == count and not is_new:
             return 20
         if is_new and count >= MOST_INPUTS:
             return 22
         try:
-            values = [read_text(text) for text in parts]
+            values = [read_text(text) for text in texts]
         except Fault:
             return 21
         self.change(place, 0 if is_new else 1, values)
+        return None
+
+    def filter(self, written):
+        """Takes another filter, under the same options."""
+        old = self.command
+        try:
+            command = Command(old.given, written.decode(), old.files, old.variables)
+        except UnicodeDecodeError:
+            return 10
+        except Refused as refused:
+            return next(number for words, number in FILTER_REFUSALS.items() if words in str(refused))
+        gone = self.output, self.errors
+        self.take(command)
+        self.tell((b"", b""), gone, (self.output, self.errors))
         return None
 
 

@@ -1,5 +1,6 @@
 #!/usr/bin/env python3
-"""A client of `jql --live`: the orders of some files are edited, and the bill of each customer follows.
+"""A client of `jql --live`: the orders of some files are edited, and the bill of each customer follows. Then other filters show
+the same orders in other ways.
 
     session.py [FILE...]
 
@@ -10,11 +11,15 @@ import json
 import subprocess
 import sys
 
-REASONS = {0: "no such request", 20: "no such place", 21: "no JSON text", 22: "too many inputs", 40: "out of memory"}
+REASONS = {
+    0: "no such request", 20: "no such place", 21: "no JSON text", 22: "too many inputs", 40: "out of memory",
+    10: "bad token", 11: "syntax error", 12: "too many tokens", 13: "too many open brackets", 14: "a name is not defined",
+    15: "inputs may be evaluated again", 16: "inputs needs -n",
+}  # fmt: skip
 
 
 class Refused(Exception):
-    """An edit that jql refused. It changed nothing."""
+    """A line that jql refused. It changed nothing."""
 
     def __init__(self, number):
         super().__init__(REASONS.get(number, f"refusal {number}"))
@@ -22,11 +27,11 @@ class Refused(Exception):
 
 
 class Session:
-    """A filter over inputs that are edited. `output`, `errors` and `status` are those of the present inputs.
+    """A filter over inputs that are edited. `output`, `errors` and `status` are those of the present filter and inputs.
 
-    The texts of the files are the first inputs. The output and the errors are asked for once; then each edit is answered with
-    what it changes in them. Each line is sent alone, and its answer is read before the next one. So the pipes never fill up on
-    both sides. Where jql ends, by a fault or by a signal, the call raises EOFError.
+    The texts of the files are the first inputs. The output and the errors are asked for once; then each edit, and each other
+    filter, is answered with what it changes in them. Each line is sent alone, and its answer is read before the next one. So
+    the pipes never fill up on both sides. Where jql ends, by a fault or by a signal, the call raises EOFError.
     """
 
     def __init__(self, filter_text, *words, files=(), program="jql"):
@@ -54,10 +59,20 @@ class Session:
     def append(self, text):
         self.edit(f"append {text}")
 
+    def filter(self, text):
+        """Takes another filter, under the options of the session."""
+        if "\n" in text:
+            raise ValueError("a filter of a session has no newline")
+        self.change(f"filter {text}")
+
     def edit(self, line):
         # A newline would end the line. A carriage return is to jql what a newline is in a JSON text: white space between
         # its parts, and refused in a string.
-        self.status = self.ask(line.replace("\n", "\r"))
+        self.change(line.replace("\n", "\r"))
+
+    def change(self, line):
+        """Sends a line, and applies the splices of its answer."""
+        self.status = self.ask(line)
         self.splice(self.output)
         self.splice(self.errors)
 
@@ -115,10 +130,10 @@ def order(customer, count, cents):
     return json.dumps({"customer": customer, "count": count, "cents": cents})
 
 
-def change(bills, what, edit, *arguments):
-    """Makes an edit, and prints the bills after it or why it was refused."""
+def change(bills, what, call, *arguments):
+    """Makes an edit or takes another filter, and prints the output after it or why it was refused."""
     try:
-        edit(*arguments)
+        call(*arguments)
     except Refused as refusal:
         print(f"== {what}: refused, {refusal}")
     else:
@@ -142,6 +157,9 @@ def main():
         change(bills, "a count that is an array", bills.append, order("Dora", [2], 100))
         change(bills, "that one is removed", bills.remove, 4)
         change(bills, "Bob cancels", bills.remove, 2)
+        change(bills, "the customers, order by order", bills.filter, 'map(.customer) | join(", ")')
+        change(bills, "a filter that is cut off", bills.filter, "map(.cents")
+        change(bills, "the total", bills.filter, "map(.count * .cents) | add")
 
 
 if __name__ == "__main__":
