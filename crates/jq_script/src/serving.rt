@@ -14,13 +14,13 @@ use jq_devices::{Read, StreamFault, Watched, Write, read_buffer, read_fault};
 use std::alloc::Global;
 
 /// Serves the lines of a script from the input. Each line's answer is written and flushed before more is read. With `follow`, the
-/// answer to an accepted edit tells what it changed in the output and in the errors.
+/// answer to an accepted edit or filter tells what it changed in the output and in the errors.
 ///
-/// An edit starts the filter no more often than `Session` allows; no other line starts it. If memory runs out in an edit, the
-/// edit is refused, and the lines after it are served. A line over the limit is read to its end, and no more than the limit is
-/// kept of it. The input ends when a read returns no bytes, and is not read again. Every error of a read or a write is a
-/// failure, including an interrupted call. After a fault, the answers to all lines but those that end in the last piece that was
-/// read were written.
+/// An edit and another filter start filters no more often than `Session` allows; no other line starts one. If memory runs out in
+/// an edit or for another filter, the line is refused, and the lines after it are served. A line over the limit is read to its
+/// end, and no more than the limit is kept of it. The input ends when a read returns no bytes, and is not read again. Every error
+/// of a read or a write is a failure, including an interrupted call. After a fault, the answers to all lines but those that end in
+/// the last piece that was read were written.
 pub fn serve<R: Read, W: Write>(
     alloc: Global,
     follow: bool,
