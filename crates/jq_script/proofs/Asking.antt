@@ -1,5 +1,5 @@
 -- The request of a line.
-use Rattle.std.proofs.Common.{◌≡◌, ◌≢◌, ◌==◌, ◌<◌, ◌≤◌, ◌+◌, ◌*◌, ◌^◌, nat_lt, cond, ℕ, Bool, true, false, List, [], ◌∷◌, ◌++◌, length, get_or, Option, Some, None, refl, sym, ap, ◌∙◌, add-one, lit<, rules, arith}
+use Rattle.std.proofs.Common.{◌≡◌, ◌≢◌, ◌==◌, ◌<◌, ◌≤◌, ◌+◌, ◌*◌, ◌^◌, nat_lt, cond, ℕ, Bool, true, false, List, [], ◌∷◌, ◌++◌, length, get_or, Option, Some, None, refl, sym, ap, ap₂, ◌∙◌, add-one, lit<, rules, arith}
 use Rattle.std.proofs.Math.Nat.{pow-suc, pow-le-pow_right}
 use Rattle.std.specs.Prelude.{All}
 use Rattle.std.specs.Char.{is_ascii_digit}
@@ -9,7 +9,7 @@ use Rattle.std.specs.Str.Parse.{digits_value}
 use Rattle.std.proofs.lemmas.Bool.{ne_eqb, le-ltb, cond-false}
 use Rattle.std.proofs.lemmas.List.Elements.{All-head, All-tail}
 use Rattle.std.proofs.lemmas.Str.Parse.{IsNumeralModel, numerals_by_value, digit_at}
-use Rattle.jq_script.specs.Requests.{Parts, around_space, with_byte, unknown, Change, change_by, change_at, place_of, request, instruction_of, instruction_by, instruction_with, word_alone, line_limit}
+use Rattle.jq_script.specs.Requests.{Parts, around_space, with_byte, unknown, Change, change_by, change_at, move_by, move_at, place_of, request, instruction_of, instruction_by, instruction_with, word_alone, line_limit}
 
 abbrev pub HasNoSpace : List ℕ → Type 0
 HasNoSpace bytes = All (λ b. b ≢ 32) bytes
@@ -50,6 +50,15 @@ no_text rest clean edit = ap (change_by edit) (no_space rest clean)
 pub changing_by : (rest place text : List ℕ) (k : Option ℕ) → rest ≡ place ++ 32 ∷ text → HasNoSpace place → k ≡ place_of place → (edit : ℕ → Change)
     → change_by edit (around_space rest) ≡ change_at edit k text
 changing_by rest place text k e clean is edit = ap (change_by edit) (ap around_space e ∙ first_space place text clean) ∙ ap (λ o. change_at edit o text) (sym is)
+
+-- ---- two numbers
+
+pub no_places : (rest : List ℕ) → HasNoSpace rest → move_by (around_space rest) ≡ unknown
+no_places rest clean = ap move_by (no_space rest clean)
+
+pub moving_by : (rest from to : List ℕ) (k l : Option ℕ) → rest ≡ from ++ 32 ∷ to → HasNoSpace from → k ≡ place_of from → l ≡ place_of to
+    → move_by (around_space rest) ≡ move_at k l
+moving_by rest from to k l e clean is_from is_to = ap move_by (ap around_space e ∙ first_space from to clean) ∙ ap₂ move_at (sym is_from) (sym is_to)
 
 -- ---- digits
 

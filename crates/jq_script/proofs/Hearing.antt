@@ -18,13 +18,13 @@ use Rattle.jq_syntax.specs.Chosen.{Chosen}
 use Rattle.jq_syntax.specs.declared.faults.CompileFault.{CompileFault}
 use Rattle.jq_syntax.specs.declared.faults.CompileFault.TheVariants as fault
 use Rattle.jq_stream.specs.declared.filters.Filter.{Filter}
-use Rattle.jq_session.specs.Splices.{Follows, FollowsFilter}
-use Rattle.jq_session.specs.States.{State, after, outcome, refiltered}
+use Rattle.jq_session.specs.Splices.{Follows, FollowsFilter, FollowsMove}
+use Rattle.jq_session.specs.States.{State, after, after_move, outcome, refiltered}
 use Rattle.jq_session.specs.declared.splices.Follow.{Follow}
 use Rattle.jq_script.specs.Answers.{answer_line, changes, ok_answer, refused_answer, spaced, splice_answer}
-use Rattle.jq_script.specs.Requests.{Change, Request, change, remove, show, errors, status, unknown, Instruction, request, filter, instruction_of}
-use Rattle.jq_script.specs.Script.{AreAnswers, IsAnswer, IsFilterTurn, IsTurn, IsTurnOf, Point, Turn, bad_text, bad_token, change_turn, edit_of, edit_turn, fault_number, faulty, filter_turn, if_null_fits, no_memory, no_text, number_of, point, refused, taken, text_value, told, turn, value_turn, without_memory}
-use Rattle.jq_script.specs.laws.Clients.{AreShort, Client, IsShort, after_pair, after_splice, changed, client_at, come, heard, heard_by, heard_pair, hears, number, past, unheard, unheard_by, up_to}
+use Rattle.jq_script.specs.Requests.{Change, Request, change, remove, move, show, errors, status, unknown, Instruction, request, filter, instruction_of}
+use Rattle.jq_script.specs.Script.{AreAnswers, IsAnswer, IsFilterTurn, IsTurn, IsTurnOf, Point, Turn, bad_text, bad_token, change_turn, edit_of, edit_turn, fault_number, faulty, filter_turn, if_null_fits, made_turn, moved, no_memory, no_text, number_of, point, refused, taken, text_value, told, turn, value_turn, without_memory}
+use Rattle.jq_script.specs.laws.Clients.{AreShort, Client, IsShort, IsShortWithout, after_pair, after_pairs, after_splice, changed, client_at, come, heard, heard_by, heard_pair, heard_pairs, hears, number, pairs, past, unheard, unheard_by, up_to}
 
 -- ---- bytes up to a byte
 
@@ -130,36 +130,37 @@ small_splice s old new is a b =
 
 -- ---- one answer
 
--- The client reads this answer, whatever follows it, and has what the state has to which it leads.
-abbrev Reads : (old new : State) → (bytes : List ℕ) → Type 0
-Reads old new bytes = (others : List ℕ) → (heard (bytes ++ others) (client_at old) ≡ client_at new) × (unheard (bytes ++ others) ≡ others)
+-- The client reads this answer, which tells so many pairs of splices, whatever follows it, and has what the state has to which it
+-- leads.
+abbrev Reads : (count : ℕ) → (old new : State) → (bytes : List ℕ) → Type 0
+Reads n old new bytes = (others : List ℕ) → (heard n (bytes ++ others) (client_at old) ≡ client_at new) × (unheard n (bytes ++ others) ≡ others)
 
-heard_parts : (answers word told : List ℕ) (c : Client) → answers ≡ word ++ 32 ∷ told → Lacks 32 word → heard answers c ≡ heard_by word told c
-heard_parts answers word told c e h =
-    ap (λ l. heard l c) e ∙ ap₂ (λ w t. heard_by w t c) (up_to_of 32 word told h) (past_of 32 word told h)
+heard_parts : (n : ℕ) (answers word told : List ℕ) (c : Client) → answers ≡ word ++ 32 ∷ told → Lacks 32 word → heard n answers c ≡ heard_by n word told c
+heard_parts n answers word told c e h =
+    ap (λ l. heard n l c) e ∙ ap₂ (λ w t. heard_by n w t c) (up_to_of 32 word told h) (past_of 32 word told h)
 
-unheard_parts : (answers word told : List ℕ) → answers ≡ word ++ 32 ∷ told → Lacks 32 word → unheard answers ≡ unheard_by word told
-unheard_parts answers word told e h = ap unheard e ∙ ap₂ unheard_by (up_to_of 32 word told h) (past_of 32 word told h)
+unheard_parts : (n : ℕ) (answers word told : List ℕ) → answers ≡ word ++ 32 ∷ told → Lacks 32 word → unheard n answers ≡ unheard_by n word told
+unheard_parts n answers word told e h = ap (unheard n) e ∙ ap₂ (unheard_by n) (up_to_of 32 word told h) (past_of 32 word told h)
 
 -- a line that changes nothing
-reads_line : (s : State) (word : List ℕ) (n : ℕ) → Lacks 32 word → n < 10 ^ 64 → ((t : List ℕ) → heard_by word t (client_at s) ≡ client_at s)
-    → ((t : List ℕ) → unheard_by word t ≡ past 10 t) → Reads s s (answer_line word n)
-reads_line s word n clean small kept left = λ others.
+reads_line : (count : ℕ) (s : State) (word : List ℕ) (n : ℕ) → Lacks 32 word → n < 10 ^ 64 → ((t : List ℕ) → heard_by count word t (client_at s) ≡ client_at s)
+    → ((t : List ℕ) → unheard_by count word t ≡ past 10 t) → Reads count s s (answer_line word n)
+reads_line count s word n clean small kept left = λ others.
     let parts = line_parts word n others in (
-      heard_parts (answer_line word n ++ others) word (decimal n ++ 10 ∷ others) (client_at s) parts clean ∙ kept (decimal n ++ 10 ∷ others),
-      unheard_parts (answer_line word n ++ others) word (decimal n ++ 10 ∷ others) parts clean
+      heard_parts count (answer_line word n ++ others) word (decimal n ++ 10 ∷ others) (client_at s) parts clean ∙ kept (decimal n ++ 10 ∷ others),
+      unheard_parts count (answer_line word n ++ others) word (decimal n ++ 10 ∷ others) parts clean
           ∙ left (decimal n ++ 10 ∷ others)
           ∙ past_decimal 10 n others newline small,
     )
 
 -- a count of bytes, and these bytes
-reads_bytes : (s : State) (word bytes : List ℕ) → Lacks 32 word → length bytes < 10 ^ 64 → ((t : List ℕ) → heard_by word t (client_at s) ≡ client_at s)
-    → ((t : List ℕ) → unheard_by word t ≡ drop (number 10 t) (past 10 t)) → Reads s s (answer_line word (length bytes) ++ bytes)
-reads_bytes s word bytes clean small kept left = λ others.
+reads_bytes : (count : ℕ) (s : State) (word bytes : List ℕ) → Lacks 32 word → length bytes < 10 ^ 64 → ((t : List ℕ) → heard_by count word t (client_at s) ≡ client_at s)
+    → ((t : List ℕ) → unheard_by count word t ≡ drop (number 10 t) (past 10 t)) → Reads count s s (answer_line word (length bytes) ++ bytes)
+reads_bytes count s word bytes clean small kept left = λ others.
     let t = decimal (length bytes) ++ 10 ∷ (bytes ++ others) in
     let parts = append_assoc (answer_line word (length bytes)) bytes others ∙ line_parts word (length bytes) (bytes ++ others) in (
-      heard_parts ((answer_line word (length bytes) ++ bytes) ++ others) word t (client_at s) parts clean ∙ kept t,
-      unheard_parts ((answer_line word (length bytes) ++ bytes) ++ others) word t parts clean
+      heard_parts count ((answer_line word (length bytes) ++ bytes) ++ others) word t (client_at s) parts clean ∙ kept t,
+      unheard_parts count ((answer_line word (length bytes) ++ bytes) ++ others) word t parts clean
           ∙ left t
           ∙ ap₂ drop (number_of_decimal 10 (length bytes) (bytes ++ others) newline small) (past_decimal 10 (length bytes) (bytes ++ others) newline small)
           ∙ drop-append_seam bytes others,
@@ -176,10 +177,10 @@ record IsPair (f : Follow) (old new : State) : Type 0 where
   err : IsSplice f.err (outcome old).errors (outcome new).errors
 
 -- The client reads these splices, whatever follows them, and has what the state has to which they lead.
-abbrev ReadsPair : (old new : State) → (bytes : List ℕ) → Type 0
-ReadsPair old new bytes = (others : List ℕ) → (heard_pair (bytes ++ others) (client_at old) ≡ client_at new) × (after_pair (bytes ++ others) ≡ others)
+abbrev ReadsPairs : (count : ℕ) → (old new : State) → (bytes : List ℕ) → Type 0
+ReadsPairs n old new bytes = (others : List ℕ) → (heard_pairs n (bytes ++ others) (client_at old) ≡ client_at new) × (after_pairs n (bytes ++ others) ≡ others)
 
-reads_pair : (f : Follow) (old new : State) → IsPair f old new → IsShort old → IsShort new → ReadsPair old new (changes f)
+reads_pair : (f : Follow) (old new : State) → IsPair f old new → IsShort old → IsShort new → ReadsPairs 1 old new (changes f)
 reads_pair f old new is a b = λ others.
     let out = small_splice f.out (outcome old).output (outcome new).output is.out a.output b.output in
     let err = small_splice f.err (outcome old).errors (outcome new).errors is.err a.errors b.errors in
@@ -197,77 +198,104 @@ reads_pair f old new is a b = λ others.
       ap after_splice at_err ∙ after_splice_of f.err others err,
     )
 
+reads_two : (f g : Follow) (old middle new : State) → IsPair f old middle → IsPair g middle new → IsShort old → IsShort middle → IsShort new
+    → ReadsPairs 2 old new (changes f ++ changes g)
+reads_two f g old middle new first second a m b = λ others.
+    let rest = changes g ++ others in
+    let joined : (changes f ++ changes g) ++ others ≡ changes f ++ rest = append_assoc (changes f) (changes g) others in
+    let one = reads_pair f old middle first a m rest in
+    let two = reads_pair g middle new second m b others in (
+      ap (λ l. heard_pairs 2 l (client_at old)) joined ∙ ap₂ (λ l c. heard_pair l c) one.1 one.0 ∙ two.0,
+      ap (after_pairs 2) joined ∙ ap after_pair one.1 ∙ two.1,
+    )
+
 -- the line of what was made, and its splices
-reads_ok : (old new : State) (n : ℕ) (told : List ℕ) → n < 10 ^ 64 → ReadsPair old new told → Reads old new (ok_answer n ++ told)
-reads_ok old new n told small reads = λ others.
+reads_ok : (count : ℕ) (old new : State) (n : ℕ) (told : List ℕ) → n < 10 ^ 64 → ReadsPairs count old new told → Reads count old new (ok_answer n ++ told)
+reads_ok count old new n told small reads = λ others.
     let ok = codes "ok" in
     let bytes = ok_answer n ++ told in
     let after_word = decimal n ++ 10 ∷ (told ++ others) in
     let parts : bytes ++ others ≡ ok ++ 32 ∷ after_word = append_assoc (ok_answer n) told others ∙ line_parts ok n (told ++ others) in
     let at : past 10 after_word ≡ told ++ others = past_decimal 10 n (told ++ others) newline small in (
-      heard_parts (bytes ++ others) ok after_word (client_at old) parts (refl, (refl, tt)) ∙ ap (λ l. heard_pair l (client_at old)) at ∙ (reads others).0,
-      unheard_parts (bytes ++ others) ok after_word parts (refl, (refl, tt)) ∙ ap after_pair at ∙ (reads others).1,
+      heard_parts count (bytes ++ others) ok after_word (client_at old) parts (refl, (refl, tt)) ∙ ap (λ l. heard_pairs count l (client_at old)) at ∙ (reads others).0,
+      unheard_parts count (bytes ++ others) ok after_word parts (refl, (refl, tt)) ∙ ap (after_pairs count) at ∙ (reads others).1,
     )
 
 -- ---- the answer to a request
 
-reads_refusal : (s : State) (n : ℕ) → n < 10 ^ 64 → Reads s s (refused_answer n)
-reads_refusal s n small = reads_line s (codes "refused") n (refl, (refl, (refl, (refl, (refl, (refl, (refl, tt))))))) small (λ t. refl) (λ t. refl)
+reads_refusal : (count : ℕ) (s : State) (n : ℕ) → n < 10 ^ 64 → Reads count s s (refused_answer n)
+reads_refusal count s n small = reads_line count s (codes "refused") n (refl, (refl, (refl, (refl, (refl, (refl, (refl, tt))))))) small (λ t. refl) (λ t. refl)
 
-same_bytes : (old new : State) (a b : List ℕ) → b ≡ a → Reads old new a → Reads old new b
-same_bytes old new a b e = subst (Reads old new) (sym e)
+same_bytes : (count : ℕ) (old new : State) (a b : List ℕ) → b ≡ a → Reads count old new a → Reads count old new b
+same_bytes count old new a b e = subst (Reads count old new) (sym e)
 
 small_reason : (reason : Reason) → number_of reason < 10 ^ 64
 small_reason no_place = lit< tt
 small_reason full = lit< tt
 
-reads_made : (old new : State) (bytes told more : List ℕ) → bytes ≡ ok_answer (outcome new).status ++ more → more ≡ told → IsShort new → ReadsPair old new told
-    → Reads old new bytes
-reads_made old new bytes told more e is b reads =
-    same_bytes old new (ok_answer (outcome new).status ++ told) bytes (e ∙ ap (λ l. ok_answer (outcome new).status ++ l) is)
-    (reads_ok old new (outcome new).status told b.status reads)
+reads_made : (count : ℕ) (old new : State) (bytes told more : List ℕ) → bytes ≡ ok_answer (outcome new).status ++ more → more ≡ told → IsShort new → ReadsPairs count old new told
+    → Reads count old new bytes
+reads_made count old new bytes told more e is b reads =
+    same_bytes count old new (ok_answer (outcome new).status ++ told) bytes (e ∙ ap (λ l. ok_answer (outcome new).status ++ l) is)
+    (reads_ok count old new (outcome new).status told b.status reads)
 
 after_edit : (s : State) (edit : Edit) (r : Result State Reason) (bytes : List ℕ) → IsAnswer true s (edit_turn s edit r) bytes → IsShort s → IsShort (edit_turn s edit r).state
-    → Reads s (edit_turn s edit r).state bytes
+    → Reads 1 s (edit_turn s edit r).state bytes
 after_edit s edit (Ok new) bytes h a b =
     let told = h.1 in
     let is : IsPair told.0 s new = record { out = told.1.out; err = told.1.err } in
-    reads_made s new bytes (changes told.0) h.0 h.2 told.2 b (reads_pair told.0 s new is a b)
-after_edit s edit (Err reason) bytes h a b = same_bytes s s (refused_answer (number_of reason)) bytes h (reads_refusal s (number_of reason) (small_reason reason))
+    reads_made 1 s new bytes (changes told.0) h.0 h.2 told.2 b (reads_pair told.0 s new is a b)
+after_edit s edit (Err reason) bytes h a b = same_bytes 1 s s (refused_answer (number_of reason)) bytes h (reads_refusal 1 s (number_of reason) (small_reason reason))
 
 after_text : (s : State) (c : Change) (r : Result Value Fault) (bytes : List ℕ) → IsAnswer true s (value_turn s c r) bytes → IsShort s → IsShort (value_turn s c r).state
-    → Reads s (value_turn s c r).state bytes
+    → Reads 1 s (value_turn s c r).state bytes
 after_text s c (Ok v) bytes h a b = after_edit s (edit_of c s v) (after (edit_of c s v) s) bytes h a b
-after_text s c (Err fault) bytes h a b = same_bytes s s (refused_answer bad_text) bytes h (reads_refusal s bad_text (lit< tt))
+after_text s c (Err fault) bytes h a b = same_bytes 1 s s (refused_answer bad_text) bytes h (reads_refusal 1 s bad_text (lit< tt))
 
 after_change : (s : State) (c : Change) (r : Result State Reason) (text bytes : List ℕ) → IsAnswer true s (change_turn s c r text) bytes → IsShort s → IsShort (change_turn s c r text).state
-    → Reads s (change_turn s c r text).state bytes
+    → Reads 1 s (change_turn s c r text).state bytes
 after_change s c (Ok fits) text bytes h a b = after_text s c (text_value text) bytes h a b
-after_change s c (Err reason) text bytes h a b = same_bytes s s (refused_answer (number_of reason)) bytes h (reads_refusal s (number_of reason) (small_reason reason))
+after_change s c (Err reason) text bytes h a b = same_bytes 1 s s (refused_answer (number_of reason)) bytes h (reads_refusal 1 s (number_of reason) (small_reason reason))
 
-after_request : (r : Request) (s : State) (bytes : List ℕ) → IsAnswer true s (turn r s) bytes → IsShort s → IsShort (turn r s).state
-    → Reads s (turn r s).state bytes
-after_request (change c text) s bytes h a b = after_change s c (if_null_fits c s) text bytes h a b
-after_request (remove k) s bytes h a b = after_edit s (edits.remove k) (after (edits.remove k) s) bytes h a b
-after_request show s bytes h a b =
-    same_bytes s s (turn show s).answer bytes h (reads_bytes s (codes "out") (outcome s).output (refl, (refl, (refl, tt))) a.output (λ t. refl) (λ t. refl))
-after_request errors s bytes h a b =
-    same_bytes s s (turn errors s).answer bytes h (reads_bytes s (codes "err") (outcome s).errors (refl, (refl, (refl, tt))) a.errors (λ t. refl) (λ t. refl))
-after_request status s bytes h a b =
-    same_bytes s s (turn status s).answer bytes h
-    (reads_line s (codes "status") (outcome s).status (refl, (refl, (refl, (refl, (refl, (refl, tt)))))) a.status (λ t. refl) (λ t. refl))
-after_request unknown s bytes h a b = same_bytes s s (refused_answer 0) bytes h (reads_refusal s 0 (lit< tt))
+after_moving : (s : State) (k l : ℕ) (r : Result State Reason) (bytes : List ℕ) → IsAnswer true s (made_turn s (moved k l) r) bytes → IsShort s → IsShortWithout s
+    → IsShort (made_turn s (moved k l) r).state → Reads 2 s (made_turn s (moved k l) r).state bytes
+after_moving s k l (Ok new) bytes h a without b =
+    let told = h.1 in
+    let halves = told.2.halves in
+    let removal = told.2.removal in
+    let insertion = told.2.insertion in
+    let middle = halves.middle in
+    let first : IsPair told.0 s middle = record { out = removal.out; err = removal.err } in
+    let second : IsPair told.1 middle new = record { out = insertion.out; err = insertion.err } in
+    reads_made 2 s new bytes (changes told.0 ++ changes told.1) h.0 h.2 told.3 b
+    (reads_two told.0 told.1 s middle new first second a (without k middle halves.removed) b)
+after_moving s k l (Err reason) bytes h a without b =
+    same_bytes 2 s s (refused_answer (number_of reason)) bytes h (reads_refusal 2 s (number_of reason) (small_reason reason))
+
+after_request : (r : Request) (s : State) (bytes : List ℕ) → IsAnswer true s (turn r s) bytes → IsShort s → IsShortWithout s → IsShort (turn r s).state
+    → Reads (pairs (request r)) s (turn r s).state bytes
+after_request (change c text) s bytes h a without b = after_change s c (if_null_fits c s) text bytes h a b
+after_request (remove k) s bytes h a without b = after_edit s (edits.remove k) (after (edits.remove k) s) bytes h a b
+after_request (move k l) s bytes h a without b = after_moving s k l (after_move k l s) bytes h a without b
+after_request show s bytes h a without b =
+    same_bytes 1 s s (turn show s).answer bytes h (reads_bytes 1 s (codes "out") (outcome s).output (refl, (refl, (refl, tt))) a.output (λ t. refl) (λ t. refl))
+after_request errors s bytes h a without b =
+    same_bytes 1 s s (turn errors s).answer bytes h (reads_bytes 1 s (codes "err") (outcome s).errors (refl, (refl, (refl, tt))) a.errors (λ t. refl) (λ t. refl))
+after_request status s bytes h a without b =
+    same_bytes 1 s s (turn status s).answer bytes h
+    (reads_line 1 s (codes "status") (outcome s).status (refl, (refl, (refl, (refl, (refl, (refl, tt)))))) a.status (λ t. refl) (λ t. refl))
+after_request unknown s bytes h a without b = same_bytes 1 s s (refused_answer 0) bytes h (reads_refusal 1 s 0 (lit< tt))
 
 -- what changes nothing is refused with a small number
-after_refusal : (s : State) (t : Turn) (n : ℕ) (bytes : List ℕ) → n < 10 ^ 64 → t ≡ refused s n → IsAnswer true s t bytes → Reads s t.state bytes
-after_refusal s t n bytes small e h =
-    subst (λ u. IsAnswer true s u bytes → Reads s u.state bytes) (sym e) (λ h. same_bytes s s (refused_answer n) bytes h (reads_refusal s n small)) h
+after_refusal : (count : ℕ) (s : State) (t : Turn) (n : ℕ) (bytes : List ℕ) → n < 10 ^ 64 → t ≡ refused s n → IsAnswer true s t bytes → Reads count s t.state bytes
+after_refusal count s t n bytes small e h =
+    subst (λ u. IsAnswer true s u bytes → Reads count s u.state bytes) (sym e) (λ h. same_bytes count s s (refused_answer n) bytes h (reads_refusal count s n small)) h
 
-after_turn : (r : Request) (s : State) (t : Turn) (bytes : List ℕ) → IsTurn r s t → IsAnswer true s t bytes → IsShort s → IsShort t.state
-    → Reads s t.state bytes
-after_turn r s t bytes (inl e) h a b =
-    subst (λ u. IsAnswer true s u bytes → IsShort u.state → Reads s u.state bytes) (sym e) (λ h b. after_request r s bytes h a b) h b
-after_turn r s t bytes (inr e) h a b = after_refusal s t no_memory bytes (lit< tt) e.1 h
+after_turn : (r : Request) (s : State) (t : Turn) (bytes : List ℕ) → IsTurn r s t → IsAnswer true s t bytes → IsShort s → IsShortWithout s → IsShort t.state
+    → Reads (pairs (request r)) s t.state bytes
+after_turn r s t bytes (inl e) h a without b =
+    subst (λ u. IsAnswer true s u bytes → IsShort u.state → Reads (pairs (request r)) s u.state bytes) (sym e) (λ h b. after_request r s bytes h a without b) h b
+after_turn r s t bytes (inr e) h a without b = after_refusal (pairs (request r)) s t no_memory bytes (lit< tt) e.1 h
 
 -- ---- the answer to another filter
 
@@ -281,24 +309,24 @@ small_fault fault.InputsPlace = lit< tt
 small_fault fault.InputsNeedNull = lit< tt
 small_fault fault.NoMemory = lit< tt
 
-after_taking : (s : State) (f : Filter) (bytes : List ℕ) → IsAnswer true s (filter_turn s f) bytes → IsShort s → IsShort (refiltered f s) → Reads s (refiltered f s) bytes
+after_taking : (s : State) (f : Filter) (bytes : List ℕ) → IsAnswer true s (filter_turn s f) bytes → IsShort s → IsShort (refiltered f s) → Reads 1 s (refiltered f s) bytes
 after_taking s f bytes h a b =
     let told = h.1 in
     let is : IsPair told.0 s (refiltered f s) = record { out = told.1.out.splice; err = told.1.err.splice } in
-    reads_made s (refiltered f s) bytes (changes told.0) h.0 h.2 told.2 b (reads_pair told.0 s (refiltered f s) is a b)
+    reads_made 1 s (refiltered f s) bytes (changes told.0) h.0 h.2 told.2 b (reads_pair told.0 s (refiltered f s) is a b)
 
 after_filter : (o : Chosen) (text : List ℕ) (s : State) (t : Turn) (m n : ℕ) (bytes : List ℕ) → IsFilterTurn o text s t m n → IsAnswer true s t bytes → IsShort s → IsShort t.state
-    → Reads s t.state bytes
+    → Reads 1 s t.state bytes
 after_filter o text s t m n bytes (taken f is e first) h a b =
-    subst (λ u. IsAnswer true s u bytes → IsShort u.state → Reads s u.state bytes) (sym e) (λ h b. after_taking s f bytes h a b) h b
-after_filter o text s t m n bytes (without_memory f is e first) h a b = after_refusal s t no_memory bytes (lit< tt) e h
-after_filter o text s t m n bytes (faulty f is refusal e same) h a b = after_refusal s t (fault_number f) bytes (small_fault f) e h
-after_filter o text s t m n bytes (no_text not e same) h a b = after_refusal s t bad_token bytes (lit< tt) e h
+    subst (λ u. IsAnswer true s u bytes → IsShort u.state → Reads 1 s u.state bytes) (sym e) (λ h b. after_taking s f bytes h a b) h b
+after_filter o text s t m n bytes (without_memory f is e first) h a b = after_refusal 1 s t no_memory bytes (lit< tt) e h
+after_filter o text s t m n bytes (faulty f is refusal e same) h a b = after_refusal 1 s t (fault_number f) bytes (small_fault f) e h
+after_filter o text s t m n bytes (no_text not e same) h a b = after_refusal 1 s t bad_token bytes (lit< tt) e h
 
-after_instruction : (o : Chosen) (i : Instruction) (s : State) (t : Turn) (m n : ℕ) (bytes : List ℕ) → IsTurnOf o i s t m n → IsAnswer true s t bytes → IsShort s
-    → IsShort t.state → Reads s t.state bytes
-after_instruction o (request r) s t m n bytes turns h a b = after_turn r s t bytes turns.0 h a b
-after_instruction o (filter text) s t m n bytes turns h a b = after_filter o text s t m n bytes turns h a b
+after_instruction : (o : Chosen) (i : Instruction) (s : State) (t : Turn) (m n : ℕ) (bytes : List ℕ) → IsTurnOf o i s t m n → IsAnswer true s t bytes → IsShort s → IsShortWithout s
+    → IsShort t.state → Reads (pairs i) s t.state bytes
+after_instruction o (request r) s t m n bytes turns h a without b = after_turn r s t bytes turns.0 h a without b
+after_instruction o (filter text) s t m n bytes turns h a without b = after_filter o text s t m n bytes turns h a b
 
 -- ---- all answers
 
@@ -311,10 +339,11 @@ keeps_up (line ∷ lines) first last answers h short =
     let bytes = h.2 in
     let others = h.3 in
     let step = h.4 in
+    let count = pairs (instruction_of line) in
     let mid = point first.options t.state n in
     let here = short [] (line ∷ lines) [] first refl (refl, refl) in
     let there = short (line ∷ []) lines bytes mid refl (t, n, bytes, [], step, sym (append-nil bytes), (refl, refl)) in
-    let one = after_instruction first.options (instruction_of line) first.state t first.starts n bytes step.turns step.answers here there others in
-    ap₂ (hears lines) (ap unheard h.5 ∙ one.1) (ap (λ l. heard l (client_at first.state)) h.5 ∙ one.0)
+    let one = after_instruction first.options (instruction_of line) first.state t first.starts n bytes step.turns step.answers here.0 here.1 there.0 others in
+    ap₂ (hears lines) (ap (unheard count) h.5 ∙ one.1) (ap (λ l. heard count l (client_at first.state)) h.5 ∙ one.0)
     ∙ keeps_up lines mid last others h.6
     (λ some rest part p e a. short (line ∷ some) rest (bytes ++ part) p (ap (λ l. line ∷ l) e) (t, n, bytes, part, step, refl, a))

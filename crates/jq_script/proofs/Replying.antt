@@ -13,17 +13,17 @@ use Rattle.jq_syntax.specs.Compiled.{IsRefusal as IsFilterRefusal}
 use Rattle.jq_syntax.specs.declared.faults.CompileFault.{CompileFault}
 use Rattle.jq_syntax.specs.declared.faults.CompileFault.TheVariants as compile_fault
 use Rattle.jq_stream.specs.declared.filters.Filter.{Filter}
-use Rattle.jq_session.specs.Sessions.{IsRefusal}
-use Rattle.jq_session.specs.Splices.{Follows, FollowsFilter}
+use Rattle.jq_session.specs.Sessions.{IsMoveRefusal, IsRefusal}
+use Rattle.jq_session.specs.Splices.{Follows, FollowsFilter, FollowsMove}
 use Rattle.jq_session.specs.Starts.{IsFirstRun}
-use Rattle.jq_session.specs.States.{State, after, outcome, refiltered}
+use Rattle.jq_session.specs.States.{State, after, after_move, outcome, refiltered}
 use Rattle.jq_session.specs.declared.refusals.Refusal.{Refusal}
 use Rattle.jq_session.specs.declared.refusals.Refusal.TheVariants as refusal
 use Rattle.jq_session.specs.declared.splices.Follow.{Follow}
 use Rattle.jq_script.specs.Answers.{ok_answer, changes, refused_answer}
-use Rattle.jq_script.specs.Requests.{Change, Request, change, remove, show, errors, status, unknown}
-use Rattle.jq_script.specs.Script.{IsAnswer, IsFilterText, MayLackMemory, Point, bad_text, bad_token, change_turn, edit_of, edit_turn, fault_number, faulty, filter_turn, if_null_fits, no_memory, no_text, number_of, refused, taken, text_value, told, turn, value_turn, without_memory}
-use Rattle.jq_script.specs.private.Replies.{IsFilterReplied, IsObstacle, IsReplied, filter_reply, made_answer, number_in, reply_of, unread_as}
+use Rattle.jq_script.specs.Requests.{Change, Request, change, remove, move, show, errors, status, unknown}
+use Rattle.jq_script.specs.Script.{IsAnswer, IsFilterText, MayLackMemory, Point, bad_text, bad_token, change_turn, edit_of, edit_turn, fault_number, faulty, filter_turn, if_null_fits, made_turn, moved, no_memory, no_text, number_of, refused, taken, text_value, told, turn, value_turn, without_memory}
+use Rattle.jq_script.specs.private.Replies.{IsFilterReplied, IsObstacle, IsReplied, filter_reply, made_answer, move_reply, moved_answer, number_in, reply_of, unread_as}
 use Rattle.jq_script.specs.declared.replies.Refused.{Refused}
 use Rattle.jq_script.specs.declared.replies.Refused.TheVariants as refused_type
 use Rattle.jq_script.specs.declared.replies.Reply.TheVariants as reply
@@ -93,6 +93,30 @@ edit_replied request old new edit (Err r) is may edited follows refused unchange
 pub removed : (k : ℕ) (old new : State) (e : Result Follow Refusal) → OnOk e (after (edits.remove k) old ≡ Ok new) → IfOk e (λ f. Follows f (edits.remove k) old new)
     → IfErr e (λ r. IsRefusal r (after (edits.remove k) old)) → OnErr e (new ≡ old) → IsReplied (remove k) old new (reply_of e)
 removed k old new e edited follows refused unchanged = edit_replied (remove k) old new (edits.remove k) e refl (λ ok. ok) edited follows refused unchanged
+
+-- ---- moves
+
+move_answer : (follow : Bool) (k l : ℕ) (old new : State) (f g : Follow) → FollowsMove f g k l old new
+    → IsAnswer follow old (made_turn old (moved k l) (Ok new)) (moved_answer follow f g)
+move_answer false k l old new f g follows = ap ok_answer follows.insertion.status
+move_answer true k l old new f g follows = (changes f ++ changes g, (f, g, follows, refl), ap (λ n. ok_answer n ++ (changes f ++ changes g)) follows.insertion.status)
+
+move_refused : (k l : ℕ) (old new : State) (r : Refusal) → IsMoveRefusal r (after_move k l old) → new ≡ old → IsReplied (move k l) old new (move_reply (Err r))
+move_refused k l old new refusal.NoPlace h same =
+    refused_for (move k l) old new refused_type.NoPlace (number_of edits.no_place) (ap (made_turn old (moved k l)) h) refl same
+move_refused k l old new refusal.Full h same = absurd h
+move_refused k l old new refusal.NoMemory h same = memory_lacks (move k l) old new h same
+move_refused k l old new refusal.Write h same = absurd h
+
+pub move_replied : (k l : ℕ) (old new : State) (e : Result (Follow × Follow) Refusal) → OnOk e (after_move k l old ≡ Ok new) → IfOk e (λ r. FollowsMove r.0 r.1 k l old new)
+    → IfErr e (λ r. IsMoveRefusal r (after_move k l old)) → OnErr e (new ≡ old) → IsReplied (move k l) old new (move_reply e)
+move_replied k l old new (Ok r) moves follows refused unchanged = record {
+  turn = made_turn old (moved k l) (Ok new);
+  turns = inl (sym (ap (made_turn old (moved k l)) moves));
+  leads = refl;
+  answers = λ follow. move_answer follow k l old new r.0 r.1 follows;
+}
+move_replied k l old new (Err r) moves follows refused unchanged = move_refused k l old new r refused unchanged
 
 -- ---- edits with an input
 

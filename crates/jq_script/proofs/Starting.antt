@@ -6,9 +6,9 @@ use Rattle.jv_text.specs.declared.faults.Fault.{Fault}
 use Rattle.jq_pages.specs.Edits.{Edit, Reason}
 use Rattle.jq_pages.specs.Edits as edits
 use Rattle.jq_pages.specs.Folds.{Rises}
-use Rattle.jq_session.specs.Starts.{AllowedStarts, IsStarted}
-use Rattle.jq_session.specs.States.{Plan, State, after, each, fold, until_halt, whole}
-use Rattle.jq_script.specs.Requests.{Change, Request, change, remove, show, errors, status, unknown}
+use Rattle.jq_session.specs.Starts.{AllowedMove, AllowedStarts, IsStarted}
+use Rattle.jq_session.specs.States.{Plan, State, after, after_move, each, fold, until_halt, whole}
+use Rattle.jq_script.specs.Requests.{Change, Request, change, remove, move, show, errors, status, unknown}
 use Rattle.jq_script.specs.Script.{MayStart, edit_of, text_value}
 
 none_in : (p : Plan) (edit : Edit) (old new : State) (a : ℕ) → AllowedStarts p edit old new a a
@@ -25,10 +25,21 @@ none_of : (c : Change) (s : State) (r : Result Value Fault) (a : ℕ) → MatchR
 none_of c s (Ok v) a = none_by (edit_of c s v) s (after (edit_of c s v) s) a
 none_of c s (Err fault) a = refl
 
+none_in_move : (p : Plan) (k l : ℕ) (old new : State) (a : ℕ) → AllowedMove p k l old new a a
+none_in_move each k l old new a = record { low = omega arith; high = omega arith }
+none_in_move (fold f) k l old new a = λ halves m n first second. record { low = omega arith; high = omega arith }
+none_in_move until_halt k l old new a = λ halves m n first second. record { low = omega arith; high = omega arith }
+none_in_move whole k l old new a = λ halves. record { low = omega arith; high = omega arith }
+
+none_by_move : (k l : ℕ) (old : State) (r : Result State Reason) (a : ℕ) → MatchResult r (λ new. AllowedMove old.plan k l old new a a) (λ reason. a ≡ a)
+none_by_move k l old (Ok new) a = none_in_move old.plan k l old new a
+none_by_move k l old (Err reason) a = refl
+
 -- nothing was started
 pub none_may : (request : Request) (s : State) (a : ℕ) → MayStart request s a a
 none_may (change c text) s a = none_of c s (text_value text) a
 none_may (remove k) s a = none_by (edits.remove k) s (after (edits.remove k) s) a
+none_may (move k l) s a = none_by_move k l s (after_move k l s) a
 none_may show s a = refl
 none_may errors s a = refl
 none_may status s a = refl
@@ -59,9 +70,21 @@ more_of : (c : Change) (s : State) (r : Result Value Fault) (a b n : ℕ) → Ma
 more_of c s (Ok v) a b n h = more_by (edit_of c s v) s (after (edit_of c s v) s) a b n h
 more_of c s (Err fault) a b n h = ap (λ x. x + n) h
 
+more_in_move : (p : Plan) (k l : ℕ) (old new : State) (a b n : ℕ) → AllowedMove p k l old new a b → AllowedMove p k l old new (a + n) (b + n)
+more_in_move each k l old new a b n h = more_rises a b _ n h
+more_in_move (fold f) k l old new a b n h = λ halves p q first second. more_rises a b _ n (h halves p q first second)
+more_in_move until_halt k l old new a b n h = λ halves p q first second. more_rises a b _ n (h halves p q first second)
+more_in_move whole k l old new a b n h = λ halves. more_rises a b _ n (h halves)
+
+more_by_move : (k l : ℕ) (old : State) (r : Result State Reason) (a b n : ℕ) → MatchResult r (λ new. AllowedMove old.plan k l old new a b) (λ reason. b ≡ a)
+    → MatchResult r (λ new. AllowedMove old.plan k l old new (a + n) (b + n)) (λ reason. b + n ≡ a + n)
+more_by_move k l old (Ok new) a b n h = more_in_move old.plan k l old new a b n h
+more_by_move k l old (Err reason) a b n h = ap (λ x. x + n) h
+
 pub more_may : (request : Request) (s : State) (a b n : ℕ) → MayStart request s a b → MayStart request s (a + n) (b + n)
 more_may (change c text) s a b n h = more_of c s (text_value text) a b n h
 more_may (remove k) s a b n h = more_by (edits.remove k) s (after (edits.remove k) s) a b n h
+more_may (move k l) s a b n h = more_by_move k l s (after_move k l s) a b n h
 more_may show s a b n h = ap (λ x. x + n) h
 more_may errors s a b n h = ap (λ x. x + n) h
 more_may status s a b n h = ap (λ x. x + n) h

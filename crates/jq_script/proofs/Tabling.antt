@@ -8,9 +8,9 @@ use Rattle.std.specs.Str.Parse.{digits_value}
 use Rattle.std.proofs.lemmas.Bool.{and_parts, eqb-true, eq-eqb, both_ways, not-true, false≢true}
 use Rattle.std.proofs.lemmas.List.Sums.{AllPass-from_list_all}
 use Rattle.std.proofs.lemmas.Slice.Eq.{bytes_eq-Decides}
-use Rattle.jq_script.specs.Requests.{Parts, Request, Change, change, remove, show, errors, status, unknown, insert, replace, append, Instruction, request, filter, place_of, is_place, line_limit, instruction_of, instruction_by, instruction_with, around_space, with_byte, command, word_alone, change_by, change_at, remove_at}
+use Rattle.jq_script.specs.Requests.{Parts, Request, Change, change, remove, move, show, errors, status, unknown, insert, replace, append, Instruction, request, filter, place_of, is_place, line_limit, instruction_of, instruction_by, instruction_with, around_space, with_byte, command, word_alone, change_by, change_at, move_by, move_at, remove_at}
 use Rattle.jq_script.specs.laws.Table.{AsksFor, Gives, Writes, parted}
-use Rattle.jq_script.proofs.Asking.{HasNoSpace, asked, asked_alone, changing_by}
+use Rattle.jq_script.proofs.Asking.{HasNoSpace, asked, asked_alone, changing_by, moving_by}
 
 -- ---- the bytes before and after a space
 
@@ -66,6 +66,15 @@ replacing : (rest line : List ℕ) (found : Option Parts) → IsAt rest found �
 replacing rest line None at is = inl refl
 replacing rest line (Some p) at is = replacing_at p.word p.rest line (place_of p.word) refl (is ∙ ap (parted (codes "replace")) at)
 
+moving_at : (from to line : List ℕ) (k l : Option ℕ) → k ≡ place_of from → l ≡ place_of to → line ≡ parted (codes "move") (parted from to) → IsTold (move_at k l) line
+moving_at from to line None l e f is = inl refl
+moving_at from to line (Some k) None e f is = inl refl
+moving_at from to line (Some k) (Some l) e f is = inr (from, to, sym e, sym f, is)
+
+moving : (rest line : List ℕ) (found : Option Parts) → IsAt rest found → line ≡ parted (codes "move") rest → IsTold (move_by found) line
+moving rest line None at is = inl refl
+moving rest line (Some p) at is = moving_at p.word p.rest line (place_of p.word) (place_of p.rest) refl refl (is ∙ ap (parted (codes "move")) at)
+
 begun : (line word rest text : List ℕ) → line ≡ parted word rest → bytes_eq word text ≡ true → line ≡ parted text rest
 begun line word rest text is e = is ∙ ap (λ w. parted w rest) ((bytes_eq-Decides word text).0 e)
 
@@ -77,7 +86,9 @@ told_command line word rest is =
     (λ e. replacing rest line (around_space rest) (parts_at rest) (begun line word rest (codes "replace") is e))
     (tested (bytes_eq word (codes "remove")) (remove_at (place_of rest)) _ line
     (λ e. removing rest line (place_of rest) refl (begun line word rest (codes "remove") is e))
-    (tested (bytes_eq word (codes "append")) (change append rest) unknown line (λ e. inr (begun line word rest (codes "append") is e)) (inl refl))))
+    (tested (bytes_eq word (codes "move")) (move_by (around_space rest)) _ line
+    (λ e. moving rest line (around_space rest) (parts_at rest) (begun line word rest (codes "move") is e))
+    (tested (bytes_eq word (codes "append")) (change append rest) unknown line (λ e. inr (begun line word rest (codes "append") is e)) (inl refl)))))
 
 -- ---- a line that gives an instruction is in the table
 
@@ -136,6 +147,9 @@ place_spaceless digits k e =
 changing_at : (edit : ℕ → Change) (digits text : List ℕ) (k : ℕ) → Writes digits k → change_by edit (around_space (parted digits text)) ≡ change (edit k) text
 changing_at edit digits text k e = changing_by (parted digits text) digits text (Some k) refl (place_spaceless digits k e) (sym e) edit
 
+moving_between : (from to : List ℕ) (k l : ℕ) → Writes from k → Writes to l → move_by (around_space (parted from to)) ≡ move k l
+moving_between from to k l e f = moving_by (parted from to) from to (Some k) (Some l) refl (place_spaceless from k e) (sym e) (sym f)
+
 alone : (line word : List ℕ) → length line ≤ line_limit → line ≡ word → HasNoSpace word → instruction_of line ≡ request (word_alone word)
 alone line word small is clean = asked_alone line small (subst HasNoSpace (sym is) clean) ∙ ap (λ w. request (word_alone w)) is
 
@@ -146,6 +160,8 @@ requested line (change (replace k) text) small h =
     asked line (codes "replace") (parted h.0 text) small h.2 (spaceless (codes "replace") refl) ∙ ap request (changing_at replace h.0 text k h.1)
 requested line (change append text) small h = asked line (codes "append") text small h (spaceless (codes "append") refl)
 requested line (remove k) small h = asked line (codes "remove") h.0 small h.2 (spaceless (codes "remove") refl) ∙ ap (λ o. request (remove_at o)) h.1
+requested line (move k l) small h =
+    asked line (codes "move") (parted h.0 h.1) small h.4 (spaceless (codes "move") refl) ∙ ap request (moving_between h.0 h.1 k l h.2 h.3)
 requested line show small h = alone line (codes "show") small h (spaceless (codes "show") refl)
 requested line errors small h = alone line (codes "errors") small h (spaceless (codes "errors") refl)
 requested line status small h = alone line (codes "status") small h (spaceless (codes "status") refl)

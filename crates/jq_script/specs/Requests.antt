@@ -15,6 +15,7 @@ pub data Change : Type 0 where
 pub data Request : Type 0 where
   change : Change → (text : List ℕ) → Request
   remove : ℕ → Request
+  move : (k l : ℕ) → Request  -- input `k` is removed and inserted at place `l` of the shorter list
   show : Request
   errors : Request
   status : Request
@@ -63,14 +64,25 @@ abbrev pub change_by : (ℕ → Change) → Option Parts → Request
 change_by edit (Some parts) = change_at edit (place_of parts.word) parts.rest
 change_by edit None = unknown
 
+abbrev pub move_at : (k l : Option ℕ) → Request
+move_at (Some k) (Some l) = move k l
+move_at (Some k) None = unknown
+move_at None l = unknown
+
+-- a number, exactly one space, and a number
+abbrev pub move_by : Option Parts → Request
+move_by (Some parts) = move_at (place_of parts.word) (place_of parts.rest)
+move_by None = unknown
+
 -- a word, exactly one space, and the rest
 abbrev pub command : (word rest : List ℕ) → Request
 command word rest =
     if bytes_eq word (codes "insert") then change_by insert (around_space rest)
     else (if bytes_eq word (codes "replace") then change_by replace (around_space rest)
     else (if bytes_eq word (codes "remove") then remove_at (place_of rest)
+    else (if bytes_eq word (codes "move") then move_by (around_space rest)
     else (if bytes_eq word (codes "append") then change append rest
-    else unknown)))
+    else unknown))))
 
 abbrev pub word_alone : List ℕ → Request
 word_alone word =

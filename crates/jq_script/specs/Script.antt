@@ -13,16 +13,17 @@ use Rattle.jq_syntax.specs.declared.faults.CompileFault.{CompileFault}
 use Rattle.jq_syntax.specs.declared.faults.CompileFault.TheVariants as fault
 use Rattle.jq_stream.specs.Filters.{IsFilterOf}
 use Rattle.jq_stream.specs.declared.filters.Filter.{Filter}
-use Rattle.jq_session.specs.Splices.{Follows, FollowsFilter}
-use Rattle.jq_session.specs.Starts.{IsFirstRun, IsStarted}
-use Rattle.jq_session.specs.States.{State, outcome, after, refiltered}
+use Rattle.jq_session.specs.Splices.{Follows, FollowsFilter, FollowsMove}
+use Rattle.jq_session.specs.Starts.{IsFirstRun, IsMoveStarted, IsStarted}
+use Rattle.jq_session.specs.States.{State, outcome, after, after_move, refiltered}
 use Rattle.jq_session.specs.declared.splices.Follow.{Follow}
 use Rattle.jq_script.specs.Answers.{ok_answer, refused_answer, status_answer, out_answer, err_answer, changes}
-use Rattle.jq_script.specs.Requests.{Change, insert, replace, append, Request, change, remove, show, errors, status, unknown, Instruction, request, filter, instruction_of}
+use Rattle.jq_script.specs.Requests.{Change, insert, replace, append, Request, change, remove, move, show, errors, status, unknown, Instruction, request, filter, instruction_of}
 
 -- What a line made of a session.
 pub data Made : Type 0 where
   edited : Edit → Made
+  moved : (k l : ℕ) → Made
   another_filter : Made
 
 -- The answer to a line, the session's state after it, and what was made, if anything was.
@@ -91,28 +92,31 @@ change_turn s c (Err reason) text = refused s (number_of reason)
 abbrev pub turn : Request → State → Turn
 turn (change c text) s = change_turn s c (if_null_fits c s) text
 turn (remove k) s = edit_turn s (edits.remove k) (after (edits.remove k) s)
+turn (move k l) s = made_turn s (moved k l) (after_move k l s)
 turn show s = told s (out_answer (outcome s).output)
 turn errors s = told s (err_answer (outcome s).errors)
 turn status s = told s (status_answer (outcome s).status)
 turn unknown s = refused s unknown_line
 
--- an edit whose number is allowed, in a session that has room for it
+-- an edit whose number is allowed, in a session that has room for it, and a move between places that are there
 abbrev pub MayLackMemory : Request → State → Type 0
 MayLackMemory (change c text) s = IsOk (if_null_fits c s)
 MayLackMemory (remove k) s = IsOk (after (edits.remove k) s)
+MayLackMemory (move k l) s = IsOk (after_move k l s)
 MayLackMemory show s = ⊥
 MayLackMemory errors s = ⊥
 MayLackMemory status s = ⊥
 MayLackMemory unknown s = ⊥
 
--- Such an edit may be refused because memory ran out, and then it changes nothing.
+-- Such a request may be refused because memory ran out, and then it changes nothing.
 abbrev pub IsTurn : Request → State → Turn → Type 0
 IsTurn r s t = (t ≡ turn r s) ⊎ (MayLackMemory r s × (t ≡ refused s no_memory))
 
--- How often a request may start the filter: an edit as often as the session says, and every other request never.
+-- How often a request may start the filter: an edit and a move as often as the session says, and every other request never.
 abbrev pub MayStart : Request → State → (old_starts new_starts : ℕ) → Type 0
 MayStart (change c text) s a b = MatchResult (text_value text) (λ v. IsStarted (edit_of c s v) s a b) (λ fault. b ≡ a)
 MayStart (remove k) s a b = IsStarted (edits.remove k) s a b
+MayStart (move k l) s a b = IsMoveStarted k l s a b
 MayStart show s a b = b ≡ a
 MayStart errors s a b = b ≡ a
 MayStart status s a b = b ≡ a
@@ -161,9 +165,10 @@ IsTurnOf o (request r) s t a b = IsTurn r s t × MayStart r s a b
 IsTurnOf o (filter bytes) s t a b = IsFilterTurn o bytes s t a b
 
 -- The bytes that tell what was made, which led from one state to another: any splices that turn the old output and errors into the
--- new ones, and put in no more than the session says.
+-- new ones, and put in no more than the session says. A move is told as its removal and then its insertion.
 abbrev pub Tells : Made → (old new : State) → List ℕ → Type 0
 Tells (edited edit) old new bytes = (f : Follow) × Follows f edit old new × (bytes ≡ changes f)
+Tells (moved k l) old new bytes = (f : Follow) × (g : Follow) × FollowsMove f g k l old new × (bytes ≡ changes f ++ changes g)
 Tells another_filter old new bytes = (f : Follow) × FollowsFilter f old new × (bytes ≡ changes f)
 
 -- The bytes that answer a line. With `--follow` the answer goes on with what was made.

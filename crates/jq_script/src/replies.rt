@@ -9,7 +9,7 @@ ghost use Rattle.jq_script.specs.Answers.{refused_answer};
 ghost use Rattle.jq_script.specs.Requests as requests;
 ghost use Rattle.jq_script.specs.Script.{MayStart, edit_of, fault_number, if_null_fits};
 ghost use Rattle.jq_script.specs.private.Reading.{change_in, request_in};
-ghost use Rattle.jq_script.specs.private.Replies.{IsObstacle, IsReplied, number_in, refused_as, reply_of, unread_as};
+ghost use Rattle.jq_script.specs.private.Replies.{IsObstacle, IsReplied, move_reply, number_in, refused_as, reply_of, unread_as};
 
 use crate::requests::{Change, Request};
 use jq_session::{Follow, MOST_INPUTS, Refusal, Session};
@@ -35,6 +35,8 @@ pub(crate) enum Refused {
 pub(crate) enum Reply {
     /// An edit was made or another filter was taken, which changed this.
     Made(Follow),
+    /// An input was moved; its removal and its insertion changed this.
+    Moved(Follow, Follow),
     Refused(Refused),
     Output,
     Errors,
@@ -70,7 +72,7 @@ fn fault_line(fault: &CompileFault) -> &'static [u8]
     }
 }
 
-/// Does what is requested of a session. A refused edit changes nothing.
+/// Does what is requested of a session. A refused edit or move changes nothing.
 #[tactic(auto, using(crate::proofs::Starting::none_may))]
 pub(crate) fn reply_to(alloc: Global, request: Request<'_>, session: &mut Session) -> Reply
     ensures turn { IsReplied (request_in request.entry) (state_of session.old) (state_of session.new) result }
@@ -80,6 +82,7 @@ pub(crate) fn reply_to(alloc: Global, request: Request<'_>, session: &mut Sessio
     match request {
         Request::Change(change, text) => make(alloc, change, text, session),
         Request::Remove(place) => made(session.remove(place)),
+        Request::Move(k, l) => moved(session.shift(k, l)),
         Request::Show => Reply::Output,
         Request::Errors => Reply::Errors,
         Request::Status => Reply::Status,
@@ -162,7 +165,17 @@ fn made(edited: Result<Follow, Refusal>) -> Reply
     }
 }
 
-// An edit writes nothing, so there is no refusal because of a write.
+// The reply for a session's answer to a move.
+fn moved(shifted: Result<(Follow, Follow), Refusal>) -> Reply
+    ensures { result ≡ move_reply shifted }
+{
+    match shifted {
+        Ok((removal, insertion)) => Reply::Moved(removal, insertion),
+        Err(refusal) => Reply::Refused(refused_for(refusal)),
+    }
+}
+
+// An edit and a move write nothing, so there is no refusal because of a write.
 fn refused_for(refusal: Refusal) -> Refused
     ensures { result ≡ refused_as refusal }
 {

@@ -3,8 +3,8 @@ ghost use Rattle.std.specs.Prelude.{◌≡◌, ◌≤◌, ℕ, length, true};
 ghost use Rattle.std.specs.List.{list_all};
 ghost use Rattle.std.specs.Char.{is_ascii_digit};
 ghost use Rattle.std.specs.Str.Parse.{digits_value};
-ghost use Rattle.jq_script.specs.Requests.{around_space, change_by, command, instruction_of, instruction_with, place_of, remove_at, word_alone, line_limit, insert, replace};
-ghost use Rattle.jq_script.specs.private.Reading.{changing, instruction_in, request_in};
+ghost use Rattle.jq_script.specs.Requests.{around_space, change_by, command, instruction_of, instruction_with, place_of, move_by, remove_at, word_alone, line_limit, insert, replace};
+ghost use Rattle.jq_script.specs.private.Reading.{changing, instruction_in, moving, request_in};
 ghost use Rattle.jq_script.specs.Requests as requests;
 
 use crate::parts::around;
@@ -25,6 +25,7 @@ pub(crate) enum Change {
 pub(crate) enum Request<'l> {
     Change(Change, &'l [u8]),
     Remove(u64),
+    Move(u64, u64),
     Show,
     Errors,
     Status,
@@ -69,6 +70,8 @@ fn command<'l>(word: &[u8], rest: &'l [u8]) -> Request<'l>
         replace(rest)
     } else if word == b"remove".as_slice() {
         remove(rest)
+    } else if word == b"move".as_slice() {
+        move_input(rest)
     } else if word == b"append".as_slice() {
         Request::Change(Change::Append, rest)
     } else {
@@ -115,6 +118,23 @@ fn remove(rest: &[u8]) -> Request<'_>
         Some(place) => Request::Remove(place),
         None => Request::Unknown,
     }
+}
+
+fn move_input(rest: &[u8]) -> Request<'_>
+    ensures { request_in result ≡ move_by (around_space rest.now) }
+{
+    match two_places(rest) {
+        Some((k, l)) => Request::Move(k, l),
+        None => Request::Unknown,
+    }
+}
+
+// A number, exactly one space, and a number.
+fn two_places(rest: &[u8]) -> Option<(u64, u64)>
+    ensures { move_by (around_space rest.now) ≡ moving result }
+{
+    let (first, second) = around(b' ', rest)?;
+    Some((place_of(first)?, place_of(second)?))
 }
 
 // A number, exactly one space, and a text.

@@ -7,7 +7,7 @@ ghost use Rattle.jq_devices.specs.declared.faults.StreamFault.TheVariants.{Read 
 ghost use Rattle.jq_session.specs.Sessions.{state_of};
 ghost use Rattle.jq_session.specs.States.{outcome};
 ghost use Rattle.jq_script.specs.Answers.{answer_line, changes, err_answer, out_answer, spaced, splice_answer};
-ghost use Rattle.jq_script.specs.private.Replies.{answer_of, made_answer};
+ghost use Rattle.jq_script.specs.private.Replies.{answer_of, made_answer, moved_answer};
 
 use crate::replies::{Reply, refused_line};
 use itoa::Buffer;
@@ -17,8 +17,8 @@ use jq_session::{Follow, Session};
 use jv_data::NoMemory;
 use std::alloc::Global;
 
-/// Writes an answer and flushes the writer. With `follow`, that to an edit or another filter has what it changed. After a fault, the
-/// first bytes of the answer were written. A refusal allocates nothing.
+/// Writes an answer and flushes the writer. With `follow`, that to an edit, a move or another filter has what it changed. After a
+/// fault, the first bytes of the answer were written. A refusal allocates nothing.
 pub(crate) fn write_reply<W: Write>(
     alloc: Global,
     follow: bool,
@@ -34,6 +34,7 @@ pub(crate) fn write_reply<W: Write>(
 {
     match reply {
         Reply::Made(made) => write_made(alloc, follow, made, output),
+        Reply::Moved(removal, insertion) => write_moved(alloc, follow, removal, insertion, output),
         Reply::Refused(refused) => write(output, refused_line(refused)),
         Reply::Output => write_output(alloc, session, output),
         Reply::Errors => write_errors(alloc, session, output),
@@ -58,6 +59,24 @@ fn write_made<W: Write>(
     write(output, &answer)
 }
 
+// Writes the answer to an accepted move, all of it at once.
+fn write_moved<W: Write>(
+    alloc: Global,
+    follow: bool,
+    removal: &Follow,
+    insertion: &Follow,
+    output: &mut Watched<W>,
+) -> Result<(), StreamFault>
+    ensures ok { OnOk result (Appends (W.contents (device_of output.old)) (W.contents (device_of output.new)) (moved_answer follow removal.now insertion.now)) }
+    ensures err { OnErr result (AppendsFirst (W.contents (device_of output.old)) (W.contents (device_of output.new)) (moved_answer follow removal.now insertion.now)) }
+    ensures unfailed { OnOk result (failures_of output.new ≡ failures_of output.old) }
+    ensures failed { IfErr result (λ fault. fault ≡ WriteFault → HasFailed (failures_of output.old) (failures_of output.new)) }
+    ensures fault { IfErr result (λ fault. fault ≢ ReadFault) }
+{
+    let answer = moved_answer(alloc, follow, removal, insertion)?;
+    write(output, &answer)
+}
+
 fn made_answer(alloc: Global, follow: bool, made: &Follow) -> Result<Vec<u8>, NoMemory>
     ensures { IfOk result (λ answer. answer.items ≡ made_answer follow made.now) }
 {
@@ -66,6 +85,23 @@ fn made_answer(alloc: Global, follow: bool, made: &Follow) -> Result<Vec<u8>, No
         return Ok(answer);
     }
     add_changes(&mut answer, made)?;
+    Ok(answer)
+}
+
+fn moved_answer(
+    alloc: Global,
+    follow: bool,
+    removal: &Follow,
+    insertion: &Follow,
+) -> Result<Vec<u8>, NoMemory>
+    ensures { IfOk result (λ answer. answer.items ≡ moved_answer follow removal.now insertion.now) }
+{
+    let mut answer = number_line(alloc, b"ok", u128::from(insertion.status))?;
+    if !follow {
+        return Ok(answer);
+    }
+    add_changes(&mut answer, removal)?;
+    add_changes(&mut answer, insertion)?;
     Ok(answer)
 }
 

@@ -1,9 +1,11 @@
 -- A client that keeps the output and the errors of a session by the answers that it reads (`--follow`).
-use Rattle.std.specs.Prelude.{◌≡◌, ◌==◌, ◌||◌, ◌<◌, ◌+◌, ◌^◌, ℕ, List, [], ◌∷◌, ◌++◌, codes, drop, length, take, true, if◌then◌else◌}
+use Rattle.std.specs.Prelude.{◌≡◌, ◌==◌, ◌||◌, ◌<◌, ◌+◌, ◌^◌, ℕ, zero, suc, List, [], ◌∷◌, ◌++◌, codes, drop, length, take, true, Ok, if◌then◌else◌}
 use Rattle.std.specs.List.{replace_range}
 use Rattle.std.specs.Str.{bytes_eq}
 use Rattle.std.specs.Str.Parse.{digits_value}
-use Rattle.jq_session.specs.States.{State, outcome}
+use Rattle.jq_pages.specs.Edits.{remove}
+use Rattle.jq_session.specs.States.{State, after, outcome}
+use Rattle.jq_script.specs.Requests.{Instruction, request, move, instruction_of}
 use Rattle.jq_script.specs.Script.{AreAnswers, Point}
 
 -- ---- the parts of an answer
@@ -45,26 +47,39 @@ heard_pair told c = let out = past 32 told in record { output = changed out c.ou
 abbrev pub after_pair : List ℕ → List ℕ
 after_pair told = after_splice (past 32 (after_splice (past 32 told)))
 
--- What the client keeps after an answer, by its first word and the bytes after that. After a line `ok S` comes such a pair.
-abbrev pub heard_by : (word told : List ℕ) → Client → Client
-heard_by word told c = if bytes_eq word (codes "ok") then heard_pair (past 10 told) c else c
+-- How many such pairs come after a line `ok S`: a move is told as its removal and its insertion.
+abbrev pub pairs : Instruction → ℕ
+pairs (request (move k l)) = 2
+pairs _ = 1
+
+abbrev pub heard_pairs : (count : ℕ) → (told : List ℕ) → Client → Client
+heard_pairs zero told c = c
+heard_pairs (suc n) told c = heard_pairs n (after_pair told) (heard_pair told c)
+
+abbrev pub after_pairs : (count : ℕ) → (told : List ℕ) → List ℕ
+after_pairs zero told = told
+after_pairs (suc n) told = after_pairs n (after_pair told)
+
+-- What the client keeps after an answer, by its first word and the bytes after that.
+abbrev pub heard_by : (count : ℕ) → (word told : List ℕ) → Client → Client
+heard_by n word told c = if bytes_eq word (codes "ok") then heard_pairs n (past 10 told) c else c
 
 -- the bytes after the answer
-abbrev pub unheard_by : (word told : List ℕ) → List ℕ
-unheard_by word told =
-    if bytes_eq word (codes "ok") then after_pair (past 10 told)
+abbrev pub unheard_by : (count : ℕ) → (word told : List ℕ) → List ℕ
+unheard_by n word told =
+    if bytes_eq word (codes "ok") then after_pairs n (past 10 told)
     else (if bytes_eq word (codes "out") || bytes_eq word (codes "err") then drop (number 10 told) (past 10 told) else past 10 told)
 
-abbrev pub heard : List ℕ → Client → Client
-heard answers c = heard_by (up_to 32 answers) (past 32 answers) c
+abbrev pub heard : (count : ℕ) → List ℕ → Client → Client
+heard n answers c = heard_by n (up_to 32 answers) (past 32 answers) c
 
-abbrev pub unheard : List ℕ → List ℕ
-unheard answers = unheard_by (up_to 32 answers) (past 32 answers)
+abbrev pub unheard : (count : ℕ) → List ℕ → List ℕ
+unheard n answers = unheard_by n (up_to 32 answers) (past 32 answers)
 
 -- one answer for each line
 abbrev pub hears : (lines : List (List ℕ)) → (answers : List ℕ) → Client → Client
 hears [] answers c = c
-hears (line ∷ lines) answers c = hears lines (unheard answers) (heard answers c)
+hears (line ∷ lines) answers c = let n = pairs (instruction_of line) in hears lines (unheard n answers) (heard n answers c)
 
 -- the output and the errors of runs from scratch
 abbrev pub client_at : State → Client
@@ -76,10 +91,14 @@ pub record IsShort (s : State) : Type 0 where
   pub errors : length (outcome s).errors < 10 ^ 64
   pub status : (outcome s).status < 10 ^ 64
 
+-- the same after the removal of any input, with which a move begins
+abbrev pub IsShortWithout : State → Type 0
+IsShortWithout s = (k : ℕ) (t : State) → after (remove k) s ≡ Ok t → IsShort t
+
 -- the same for all states to which the first of these lines lead
 abbrev pub AreShort : (lines : List (List ℕ)) → Point → Type 0
 AreShort lines first =
-    (some others : List (List ℕ)) (answers : List ℕ) (p : Point) → some ++ others ≡ lines → AreAnswers true some first answers p → IsShort p.state
+    (some others : List (List ℕ)) (answers : List ℕ) (p : Point) → some ++ others ≡ lines → AreAnswers true some first answers p → IsShort p.state × IsShortWithout p.state
 
 -- A client that has the output and the errors of runs from scratch on the first inputs has those of the present inputs after the
 -- answers to any lines.

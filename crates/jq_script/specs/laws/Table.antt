@@ -1,6 +1,6 @@
 -- The lines of a script, as a table: the form of the lines for each instruction.
 use Rattle.std.specs.Prelude.{◌≡◌, ◌≢◌, ◌≤◌, ◌↔◌, ℕ, List, ◌∷◌, ◌++◌, length, codes, Some}
-use Rattle.jq_script.specs.Requests.{Request, change, remove, show, errors, status, unknown, insert, replace, append, Instruction, request, filter, place_of, line_limit, instruction_of}
+use Rattle.jq_script.specs.Requests.{Request, change, remove, move, show, errors, status, unknown, insert, replace, append, Instruction, request, filter, place_of, line_limit, instruction_of}
 
 -- these digits are the number of an input
 abbrev pub Writes : List ℕ → ℕ → Type 0
@@ -15,6 +15,7 @@ AsksFor (change (insert k) text) line = (digits : List ℕ) × Writes digits k �
 AsksFor (change (replace k) text) line = (digits : List ℕ) × Writes digits k × (line ≡ parted (codes "replace") (parted digits text))
 AsksFor (change append text) line = line ≡ parted (codes "append") text
 AsksFor (remove k) line = (digits : List ℕ) × Writes digits k × (line ≡ parted (codes "remove") digits)
+AsksFor (move k l) line = (from : List ℕ) × (to : List ℕ) × Writes from k × Writes to l × (line ≡ parted (codes "move") (parted from to))
 AsksFor show line = line ≡ codes "show"
 AsksFor errors line = line ≡ codes "errors"
 AsksFor status line = line ≡ codes "status"

@@ -17,6 +17,7 @@ change_in change.Append = requests.append
 abbrev pub request_in : Request → requests.Request
 request_in (request.Change c text) = requests.change (change_in c) text.now
 request_in (request.Remove k) = requests.remove k
+request_in (request.Move k l) = requests.move k l
 request_in request.Show = requests.show
 request_in request.Errors = requests.errors
 request_in request.Status = requests.status
@@ -34,3 +35,8 @@ IsAround byte bytes r = MatchOption r (All (λ b. b ≢ byte) bytes) (λ p. (byt
 abbrev pub changing : (ℕ → requests.Change) → Option (ℕ × Bor (List ℕ)) → requests.Request
 changing edit None = requests.unknown
 changing edit (Some p) = requests.change (edit p.0) p.1.now
+
+-- the request for a move with the numbers that were read, if they could be read
+abbrev pub moving : Option (ℕ × ℕ) → requests.Request
+moving None = requests.unknown
+moving (Some p) = requests.move p.0 p.1

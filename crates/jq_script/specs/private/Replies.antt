@@ -29,9 +29,15 @@ abbrev pub made_answer : (follow : Bool) → Follow → List ℕ
 made_answer false f = ok_answer f.status
 made_answer true f = ok_answer f.status ++ changes f
 
+-- the answer to an accepted move, by what its removal and its insertion changed
+abbrev pub moved_answer : (follow : Bool) → (f g : Follow) → List ℕ
+moved_answer false f g = ok_answer g.status
+moved_answer true f g = ok_answer g.status ++ (changes f ++ changes g)
+
 -- the answer, if the session is in this state
 abbrev pub answer_of : (follow : Bool) → Reply → State → List ℕ
 answer_of follow (reply.Made f) s = made_answer follow f
+answer_of follow (reply.Moved f g) s = moved_answer follow f g
 answer_of follow (reply.Refused r) s = refused_answer (number_in r)
 answer_of follow reply.Output s = out_answer (outcome s).output
 answer_of follow reply.Errors s = err_answer (outcome s).errors
@@ -80,6 +86,11 @@ refused_as refusal.NoMemory = refused.NoMemory
 abbrev pub reply_of : Result Follow Refusal → Reply
 reply_of (Ok follow) = reply.Made follow
 reply_of (Err r) = reply.Refused (refused_as r)
+
+-- the reply for a session's answer to a move
+abbrev pub move_reply : Result (Follow × Follow) Refusal → Reply
+move_reply (Ok follow) = reply.Moved follow.0 follow.1
+move_reply (Err r) = reply.Refused (refused_as r)
 
 -- the reply for another filter that was run
 abbrev pub filter_reply : Result Follow NoMemory → Reply

@@ -12,6 +12,12 @@ returns-in-Made-clause-err g c =
     let new = g.W.Write.contents (device_of c.write_made.new.output) in
     subst (λ r. OnErr c.write_made.result (AppendsFirst old new (answer_of c.args.follow r (state_of c.args.session.now)))) (sym c.in-Made.is) c.write_made.ensures.err
 
+pub returns-in-Moved-clause-err : goal.returns-in-Moved-clause-err
+returns-in-Moved-clause-err g c =
+    let old = g.W.Write.contents (device_of c.args.output.now) in
+    let new = g.W.Write.contents (device_of c.write_moved.new.output) in
+    subst (λ r. OnErr c.write_moved.result (AppendsFirst old new (answer_of c.args.follow r (state_of c.args.session.now)))) (sym c.in-Moved.is) c.write_moved.ensures.err
+
 pub returns-in-Refused-clause-err : goal.returns-in-Refused-clause-err
 returns-in-Refused-clause-err g c =
     let old = g.W.Write.contents (device_of c.args.output.now) in
