@@ -4,8 +4,9 @@
     bench/sessions.py [--program ./jql] [--inputs 1000,100000,1000000] [--only WORDS]
 
 For each row a session starts over a file of inputs. An input at the front, in the middle and at the end is replaced up to 200
-times, each time by another value (the first of the numbers by itself, since it stays the greatest). The edits at one place stop
-after two seconds. A cell is the processor time of one edit in microseconds, its answer included: the kernel tells the time of the
+times, each time by another value (the first of the numbers by itself, since it stays the greatest). In a row of moves the input
+there is moved in place of that: the first one to the end, and the others to the front. The edits at one place stop after two
+seconds. A cell is the processor time of one edit in microseconds, its answer included: the kernel tells the time of the
 process before and after the edits. `start` is the processor time up to the first answer, in milliseconds. `bytes` is the peak
 memory for each input: that of the session, less that of a session without inputs and less the bytes of its output. Only ratios
 of one run on one machine say something; nothing here is a test.
@@ -20,14 +21,15 @@ import time
 ROOT = pathlib.Path(__file__).resolve().parent.parent
 # The edits at one place, and after how many seconds no more are made.
 EDITS, SECONDS = 200, 2.0
-# Each row: its name, the words after the program's name, and the kind of its inputs.
+# Each row: its name, the words after the program's name, the kind of its inputs, and of its edits.
 ROWS = [
-    ("-c .", ["-c", "."], "records"),
-    ("-c .user.name", ["-c", ".user.name"], "records"),
-    ("-n reduce inputs as $x (0; [., $x] | max)", ["-n", "reduce inputs as $x (0; [., $x] | max)"], "numbers"),
-    ("-n reduce inputs as $x (0; . + $x)", ["-n", "reduce inputs as $x (0; . + $x)"], "numbers"),
-    ("-n foreach inputs as $x (0; . + $x)", ["-n", "foreach inputs as $x (0; . + $x)"], "numbers"),
-    ("-s add", ["-s", "add"], "numbers"),
+    ("-c .", ["-c", "."], "records", "replace"),
+    ("-c .", ["-c", "."], "records", "move"),
+    ("-c .user.name", ["-c", ".user.name"], "records", "replace"),
+    ("-n reduce inputs as $x (0; [., $x] | max)", ["-n", "reduce inputs as $x (0; [., $x] | max)"], "numbers", "replace"),
+    ("-n reduce inputs as $x (0; . + $x)", ["-n", "reduce inputs as $x (0; . + $x)"], "numbers", "replace"),
+    ("-n foreach inputs as $x (0; . + $x)", ["-n", "foreach inputs as $x (0; . + $x)"], "numbers", "replace"),
+    ("-s add", ["-s", "add"], "numbers", "replace"),
 ]
 
 
@@ -74,13 +76,19 @@ class Session:
         self.process.wait()
 
 
-def edit_cost(session, kind, place):
+def line_of(edit, kind, place, count, number):
+    """The line of an edit at a place among so many inputs."""
+    if edit == "move":
+        return f"move {place} {count - 1 if place == 0 else 0}"
+    # The first input of the numbers stays the greatest.
+    return f"replace {place} {'999999' if kind == 'numbers' and place == 0 else text_of(kind, number)}"
+
+
+def edit_cost(session, edit, kind, place, count):
     """Microseconds of processor time for one edit at a place."""
     before, began, made = session.seconds(), time.monotonic(), 0
     while made < EDITS and time.monotonic() - began < SECONDS:
-        # The first input of the numbers stays the greatest.
-        text = "999999" if kind == "numbers" and place == 0 else text_of(kind, made + 17)
-        if not session.ask(f"replace {place} {text}").startswith(b"ok "):
+        if not session.ask(line_of(edit, kind, place, count, made + 17)).startswith(b"ok "):
             sys.exit(f"an edit at place {place} was refused")
         made += 1
     return (session.seconds() - before) / made * 1e6
@@ -96,13 +104,13 @@ def begin(program, words, kind, count, folder):
     return session
 
 
-def measure(program, words, kind, count, folder):
+def measure(program, words, kind, edit, count, folder):
     empty = begin(program, words, kind, 0, folder)
     memory = -empty.peak()
     empty.end()
     session = begin(program, words, kind, count, folder)
     start = session.seconds()
-    costs = [edit_cost(session, kind, place) for place in (0, count // 2, count - 1)]
+    costs = [edit_cost(session, edit, kind, place, count) for place in (0, count // 2, count - 1)]
     memory += session.peak() - session.length()
     session.end()
     return costs, start, memory / count
@@ -117,13 +125,14 @@ def main():
     print("| Filter | Inputs | front, µs | middle, µs | end, µs | start, ms | bytes |")
     print("|---|---|---|---|---|---|---|", flush=True)
     with tempfile.TemporaryDirectory(prefix="jql-sessions-") as folder:
-        for name, words, kind in ROWS:
+        for name, words, kind, edit in ROWS:
+            name = f"`{name}`" + ", moved" * (edit == "move")
             if options.only not in name:
                 continue
             for count in map(int, options.inputs.split(",")):
-                costs, start, memory = measure(options.program, words, kind, count, folder)
+                costs, start, memory = measure(options.program, words, kind, edit, count, folder)
                 cells = [f"{cost:.0f}" for cost in costs] + [f"{start * 1000:.0f}", f"{memory:.0f}"]
-                print(f"| `{name}` | {count:,} | " + " | ".join(cells) + " |", flush=True)
+                print(f"| {name} | {count:,} | " + " | ".join(cells) + " |", flush=True)
 
 
 if __name__ == "__main__":

@@ -79,9 +79,11 @@ def each_answer_comes_before_the_next_line(program):
         (b"append [\n", b"refused 21\n"),
         (b"status\n", b"status 0\n"),
         (b"show\n", b"out 5\n{}\n1\n"),
+        (b"move 0 1\n", b"ok 0\n"),
+        (b"move 0 2\n", b"refused 20\n"),
         (b"filter type\n", b"ok 0\n"),
         (b"filter type)\n", b"refused 11\n"),
-        (b"show\n", b"out 18\n\"object\"\n\"number\"\n"),
+        (b"show\n", b"out 18\n\"number\"\n\"object\"\n"),
     ]
     return talk(program, ["--live", "-c", "."], turns)
 
@@ -140,7 +142,7 @@ def an_edit_that_changes_more_bytes_than_a_pipe_holds(program):
             ask(process, b"append 1\n", b"ok 0\nout 1200000 0 3\na\nberr 0 0 0\n")
             ask(process, b"remove 0\n", b"ok 0\nout 0 1200000 0\nerr 0 0 0\n")
             ask(process, b"remove 0\n", b"ok 0\nout 0 3 0\nerr 0 0 0\n")
-            ask(process, b"append 400000\n", b"ok 0\nout 0 0 1200000\n" + b"a\nb" * 400_000 + b"err 0 0 0\n")
+            ask(process, b"append 400000\nmove 0 0\n", b"ok 0\nout 0 0 1200000\n" + b"a\nb" * 400_000 + b"err 0 0 0\nok 0\nout 0 1200000 0\nerr 0 0 0\nout 0 0 1200000\n" + b"a\nb" * 400_000 + b"err 0 0 0\n")
             ask(process, b"filter empty\n", b"ok 0\nout 0 1200000 0\nerr 0 0 0\n")
             ask(process, b'filter "a\\nb" * .\n', b"ok 0\nout 0 0 1200000\n" + b"a\nb" * 400_000 + b"err 0 0 0\n")
             ask(process, b"remove 0\n", b"ok 0\nout 0 1200000 0\nerr 0 0 0\n")
@@ -184,6 +186,7 @@ def an_output_without_room(program):
     return (
         fault_without_room(program, [], b"show\nerrors\n", b"out 6\n12345\nerr 40\n" + told)
         or fault_without_room(program, ["--follow"], b'insert 1 2\nreplace 2 {"a":6}\n', b"ok 5\nout 0 0 0\nerr 40 0 40\n" + told + b"ok 5\nout 0 6 2\n6\nerr 80 0 0\n")
+        or fault_without_room(program, ["--follow"], b"move 0 1\n", b"ok 5\nout 0 0 0\nerr 0 40 0\nout 6 0 0\nerr 0 0 40\n" + told)
         or fault_without_room(program, ["--follow"], b"filter .[0]?, 7\n", b"ok 0\nout 0 6 4\n7\n7\nerr 0 40 0\n")
     )
 
@@ -331,6 +334,8 @@ def changes_among_a_thousand_inputs(program):
             ask(process, b"replace 990 4\n", b"ok 0\n")
             ask(process, b"show\n", b"out 2\n9\n")
             ask(process, b"replace 990 10\nshow\n", b"ok 0\nout 3\n10\n")
+            ask(process, b"move 990 0\nshow\n", b"ok 0\nout 3\n10\n")
+            ask(process, b"replace 0 9\nmove 999 0\nmove 0 500\nshow\n", b"ok 0\nok 0\nok 0\nout 2\n9\n")
     return None
 
 
@@ -349,6 +354,7 @@ def a_change(rng, filters):
     """A line that changes a session over about 1,000 numbers."""
     number = rng.choice([77, *range(70)])
     lines = [f"insert {rng.randrange(970)} {number}", f"replace {rng.randrange(970)} {number}", f"remove {rng.randrange(970)}", f"append {number}"]
+    lines += [f"move {rng.randrange(970)} {rng.randrange(970)}"] * 2
     return f"filter {rng.choice(filters)}" if rng.random() < 0.1 else rng.choice(lines)
 
 
@@ -392,6 +398,7 @@ def a_million_inputs_and_no_more(program):
             ask(process, b"append 1\nreplace %d 2\n" % last, b"refused 22\nok 0\n")
             ask(process, b"remove 0\ninsert %d 1\n" % (last + 1), b"ok 0\nrefused 20\n")
             ask(process, b"insert %d 1\nappend 1\nshow\n" % last, b"ok 0\nrefused 22\nout 2\n7\n")
+            ask(process, b"move 0 %d\nmove %d 0\nmove %d 0\nmove 0 %d\n" % (last, last, last + 1, last + 1), b"ok 0\nok 0\nrefused 20\nrefused 20\n")
             ask(process, b"filter 8\nappend 1\nshow\n", b"ok 0\nrefused 22\nout 2\n8\n")
     for more, line in [(b"1", b"too many inputs"), (b"1 ]", b"input at byte %d: malformed text" % (2 * MOST_INPUTS + 2))]:
         got = told_at_once(program, ["-n", "7", "a"], {"a": [*texts, more]})

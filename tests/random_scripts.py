@@ -3,10 +3,10 @@
 
     tests/random_scripts.py [--program ./jql] [--count 1000] [--seed 1]
 
-A script has options, a filter, first inputs in files, edits and other filters with and without faults, and at some
+A script has options, a filter, first inputs in files, edits, moves and other filters with and without faults, and at some
 places `show`, `errors` and `status`. Each refusal has to be the one wanted, and what is shown has to be what
 tests/reference.py writes in runs from scratch of the present filter on the present inputs, which are kept here. Half of the
-scripts run with `--follow`: `show` and `errors` come first and after each edit and filter, and a client that applies
+scripts run with `--follow`: `show` and `errors` come first and after each edit, move and filter, and a client that applies
 the splices of the answers has to have their bytes. The same seed gives the same scripts. The last line is 'N passed, M failed'.
 """
 import argparse
@@ -76,7 +76,7 @@ BAD_TEXTS = ["", " ", "[1", "1 2", "1,", "]", "{", '{"a"}', '"a', "nan", "tru", 
 BAD_PLACES = ["", "x", "-1", "+0", "1.0", "00000000000000000000", " 0", "0x0"]
 NO_REQUESTS = [
     "", " ", "hello", "show ", " show", "status 0", "errors x", "append", "insert", "insert 0", "replace 0", "remove", "remove ", "remove 0 ",
-    "remove  0", "remove 0 1", "insert  0 1", "INSERT 0 1", "append\t1", "show\r", "ok 0", "1", "move 0 0", "filter", "filter.", "Filter .",
+    "remove  0", "remove 0 1", "insert  0 1", "INSERT 0 1", "append\t1", "show\r", "ok 0", "1", "move", "move 0", "move 0 ", "move 0 0 ", "MOVE 0 0", "filter", "filter.", "Filter .",
 ]  # fmt: skip
 
 
@@ -125,11 +125,13 @@ class Script:
         return str(place).zfill(self.rng.choice([1, 1, 1, 2, 19])), place < limit
 
     def change(self):
-        kind = self.rng.choice(["insert"] * 2 + ["replace"] * 2 + ["remove"] * 2 + ["append"] * 2 + ["filter", "no request"])
+        kind = self.rng.choice(["insert"] * 2 + ["replace"] * 2 + ["remove"] * 2 + ["append"] * 2 + ["move"] * 2 + ["filter", "no request"])
         if kind == "no request":
             self.add(self.rng.choice(NO_REQUESTS), UNKNOWN)
         elif kind == "filter":
             self.take()
+        elif kind == "move":
+            self.move()
         else:
             self.edit(kind)
 
@@ -139,6 +141,16 @@ class Script:
             return self.add(f"filter {text}", refusal)
         self.filter = self.rng.choice([*self.filters, ""])
         return self.accept(f"filter {self.filter}")
+
+    def move(self):
+        (first, is_there), (second, has_place) = (self.place(len(self.inputs)) for _ in range(2))
+        line = f"move {first} {second}"
+        if is_there is None or has_place is None:
+            return self.add(line, UNKNOWN)
+        if not (is_there and has_place):
+            return self.add(line, NO_PLACE)
+        self.inputs.insert(int(second), self.inputs.pop(int(first)))
+        return self.accept(line)
 
     def edit(self, kind):
         count, is_bad = len(self.inputs), self.rng.random() < 0.15
@@ -190,15 +202,18 @@ def splice_at(data, at, word):
 
 
 def splices_at(data, at):
-    """The splices from there on, of the output and of the errors, and where they end."""
-    out, at = splice_at(data, at, b"out")
-    err, at = splice_at(data, at, b"err")
-    return [out, err], at
+    """All splices from there on, and where they end. (The output itself has one number after its word.)"""
+    splices = []
+    while not splices or (head := SPLICE.match(data, at)) and head[1] == b"out":
+        for word in (b"out", b"err"):
+            splice, at = splice_at(data, at, word)
+            splices.append(splice)
+    return splices, at
 
 
 def answers_of(data, follow=False):
     """The answers in these bytes, as triples of a word, a number and the bytes that follow. With `follow` splices follow an
-    accepted line: those of the output and of the errors."""
+    accepted line: those of the output and of the errors, and of a move twice."""
     found, at = [], 0
     while at < len(data):
         head = HEAD.match(data, at)
@@ -224,8 +239,11 @@ def spliced(data, splice):
 
 
 def followed(client, splices):
-    """The output and the errors after these splices."""
-    return [spliced(data, splice) for data, splice in zip(client, splices)]
+    """The output and the errors after these splices, which change them in turns."""
+    client = list(client)
+    for number, splice in enumerate(splices):
+        client[number % 2] = spliced(client[number % 2], splice)
+    return client
 
 
 def session(program, script):
@@ -246,7 +264,9 @@ def from_scratch(words):
 
 
 def fault_of_splices(line, client, splices):
-    """What is wrong with the splices that answer a line: those of another filter replace everything."""
+    """What is wrong with the splices that answer a line: a move has four, and those of another filter replace everything."""
+    if len(splices) != (4 if line.startswith("move") else 2):
+        return f"{len(splices)} splices"
     if line.startswith("filter") and any(splice[:2] != (0, len(data)) for data, splice in zip(client, splices)):
         return f"{splices} after {client}"
     return None

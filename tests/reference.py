@@ -2115,7 +2115,7 @@ class Command:
 
 MOST_INPUTS, LONGEST_LINE = 1_000_000, 16_777_216
 # How many parts come after the word of a line.
-PARTS = {b"insert": 2, b"replace": 2, b"remove": 1, b"append": 1, b"filter": 1}
+PARTS = {b"insert": 2, b"replace": 2, b"remove": 1, b"move": 2, b"append": 1, b"filter": 1}
 # The numbers of a refused filter, by words of its refusal.
 FILTER_REFUSALS = {
     "bad token at": 10, "syntax error": 11, "more than 8192 tokens": 12, "more than 256 open": 13, " is not defined": 14, "inputs stands": 15, "inputs needs": 16,
@@ -2182,6 +2182,8 @@ class Session:
             return 0
         if word == b"filter":
             return self.filter(*parts)
+        if word == b"move":
+            return self.move(*map(place_of, parts))
         return self.edit(word, len(self.inputs) if word == b"append" else place_of(parts.pop(0)), parts)
 
     def edit(self, word, place, texts):
@@ -2197,6 +2199,17 @@ class Session:
         except Fault:
             return 21
         self.change(place, 0 if is_new else 1, values)
+        return None
+
+    def move(self, place, new_place):
+        """Takes an input out, and puts it at a place of the shorter list."""
+        if place is None or new_place is None:
+            return 0
+        if max(place, new_place) >= len(self.inputs):
+            return 20
+        value = self.inputs[place]
+        self.change(place, 1, [])
+        self.change(new_place, 0, [value])
         return None
 
     def filter(self, written):

@@ -59,6 +59,10 @@ class Session:
     def append(self, text):
         self.edit(f"append {text}")
 
+    def move(self, place, new_place):
+        """Takes the input of this number out, and makes it the one of the new number."""
+        self.change(f"move {place} {new_place}", pairs=2)
+
     def filter(self, text):
         """Takes another filter, under the options of the session."""
         if "\n" in text:
@@ -70,11 +74,12 @@ class Session:
         # its parts, and refused in a string.
         self.change(line.replace("\n", "\r"))
 
-    def change(self, line):
-        """Sends a line, and applies the splices of its answer."""
+    def change(self, line, pairs=1):
+        """Sends a line, and applies the splices of its answer. Those of a move are two pairs."""
         self.status = self.ask(line)
-        self.splice(self.output)
-        self.splice(self.errors)
+        for _ in range(pairs):
+            self.splice(self.output)
+            self.splice(self.errors)
 
     def splice(self, kept):
         """Reads what an edit changes: from byte `at` on, `cut` bytes go and others come."""
@@ -158,6 +163,8 @@ def main():
         change(bills, "that one is removed", bills.remove, 4)
         change(bills, "Bob cancels", bills.remove, 2)
         change(bills, "the customers, order by order", bills.filter, 'map(.customer) | join(", ")')
+        change(bills, "Carl's order goes to the end", bills.move, 0, 2)
+        change(bills, "a place that is not there", bills.move, 0, 3)
         change(bills, "a filter that is cut off", bills.filter, "map(.cents")
         change(bills, "the total", bills.filter, "map(.count * .cents) | add")
 
