@@ -34,10 +34,6 @@ put_back_is xs ys i cut put o l e y t =
     ∙ ap (λ z. take i xs ++ z) (ap₂ (λ z w. z ++ w) t (sym (drop-drop cut i xs)) ∙ take-append-drop cut (drop i xs))
     ∙ take-append-drop i xs
 
-renewed_nothing : {T : Type 0} (bs : List (Parts T)) → renewed_parts bs [] ≡ bs
-renewed_nothing [] = refl
-renewed_nothing (b ∷ bs) = refl
-
 -- the parts of renewed pages
 pub parts_renewed : {T : Type 0} (ps : List (Page T)) (rs : List (Rerun T)) → map parts (renewed ps rs) ≡ renewed_parts (map parts ps) rs
 parts_renewed [] rs = refl
@@ -131,9 +127,6 @@ swapped_within ps qs rs from at n l a e m =
 
 pub swapped_all_pages : {T : Type 0} (ps qs : List (Page T)) (rs : List (Rerun T)) (from at : ℕ) → length rs ≤ at → qs ≡ take from ps ++ renewed (drop from ps) (take at rs) → qs ≡ take from ps ++ renewed (drop from ps) rs
 swapped_all_pages ps qs rs from at l e = e ∙ ap (λ z. take from ps ++ renewed (drop from ps) z) (take_all at rs l)
-
-same_take : {A : Type 0} (xs : List A) (n m : ℕ) → n ≡ m → take n xs ≡ take m xs
-same_take xs n m e = ap (λ z. take z xs) e
 
 module _ {T : Type 0} (ps qs : List (Page T)) (rs ss : List (Rerun T)) (from at : ℕ) (p : Page T) (fits : from + length rs ≤ length ps) (l : at < length rs) (e : qs ≡ take from ps ++ renewed (drop from ps) (take at rs)) where
   count : length (map run_in (take at (drop from ps))) ≡ at

@@ -162,10 +162,6 @@ placed_more ps qs from at rs all rest a p l e m w h =
     ∙ ap (λ z. take from ps ++ set x (length rs) (v z)) here
     ∙ ap (λ z. take from ps ++ z) (renewed_more (drop from ps) rs a p fits)
 
--- a place that one more run goes to
-pub placed_there : {A B : Type 0} (ps : List A) (qs : List A) (from at : ℕ) (rs all rest : List B) (a : B) → from + length all ≤ length ps → length qs ≡ length ps → at ≡ from + length rs → rs ++ a ∷ rest ≡ all → at < length qs
-placed_there ps qs from at rs all rest a l e m w = let n : length rs + (length rest + 1) ≡ length all = placed_count rs rest all a w in omega arith
-
 pub placed_length : {T : Type 0} (ps qs : List (Page T)) (from : ℕ) (rs : List (Rerun T)) → from ≤ length ps → qs ≡ take from ps ++ renewed (drop from ps) rs → length qs ≡ length ps
 placed_length ps qs from rs l e =
     let a : length qs ≡ length (take from ps) + length (renewed (drop from ps) rs) = ap length e ∙ length-append (take from ps) (renewed (drop from ps) rs) in

@@ -1,4 +1,4 @@
-use Rattle.std.proofs.Common.{◌≡◌, ℕ, ◌+◌, ◌<◌, ◌≤◌, List, ◌∙◌, get_or, length, sym, subst, take, arith}
+use Rattle.std.proofs.Common.{◌≡◌, ℕ, ◌+◌, ◌<◌, ◌≤◌, List, ◌∙◌, get_or, length, sym, subst, arith}
 use Rattle.std.proofs.Math.Logic.{∥∥₁_elim, ∥∥₁_map, ∥∥₁_prop}
 use Rattle.jq_pages.specs.private.Pages.{IsFilledBut, IsHeld, IsPlace}
 use Rattle.jq_pages.specs.private.Reruns.{count_in}
@@ -43,9 +43,6 @@ from g c = record {
   fits = λ d. fits _ (page_small c.make_room.new.pages.items c.find-from_page.result.0 d (page g c) c.make_room.ensures.sized);
   room = λ e. absurd (never e);
 }
-
-spot : (g : _) (c : After-find-from_page g) → count_in (take c.find-from_page.result.0 c.make_room.new.pages.items) + c.find-from_page.result.1 ≡ c.args.k
-spot g c = subst (λ (z : List _). count_in (take c.find-from_page.result.0 z) + c.find-from_page.result.1 ≡ c.args.k) c.deref-2.ensures.value c.find-from_page.ensures.place
 
 no_more : (i n : ℕ) → i + 0 ≤ n → i ≤ n
 no_more i n l = omega arith
