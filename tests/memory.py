@@ -149,7 +149,7 @@ def an_allocation_of_random_sessions(refusing):
         script = Script(random.Random(f"memory {number}"))
         lines = [line.encode() for line in script.lines]
         with tempfile.TemporaryDirectory() as folder:
-            words = [*script.words, *script.files_in(folder)]
+            words = [*script.words, script.first_filter, *script.files_in(folder)]
             last = refusing.allocations(["--live", *words], b"\n".join(lines), cwd=folder)
             return outcome_of_session(refusing, words, lines, script.rng.randrange(refusing.start, last + 1), folder)
 

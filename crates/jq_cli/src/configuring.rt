@@ -28,7 +28,7 @@ pub struct Config {
     pub files: Vec<String>,
     /// `--live`: a session in which inputs are edited.
     pub live: bool,
-    /// `--follow`: each accepted edit of a session is answered with what it changes.
+    /// `--follow`: each line of a session is answered with what it changes.
     pub follow: bool,
     /// `--explain`: notes follow the error lines.
     pub explain: bool,

@@ -18,7 +18,7 @@ prints each output.
       --argjson NAME JSON  bind the variable $NAME to the value of the text JSON
       --depth D            allow D calls inside one another (without it 10,000)
       --live               serve a session: standard input is a script of edits
-      --follow             with --live, answer each accepted edit with what it changes
+      --follow             with --live, answer with what each line changes
       --explain            write notes after error lines, which say where and why
   -h, --help               print this list of options and end
   -V, --version            print the version and end
