@@ -39,7 +39,6 @@ pub fn plans_are_by_the_tree()
 
 /// The pieces of the runs on each input up to the first one that halts, one after the other, are the output, the errors and the status
 /// of runs from scratch.
-#[tactic(auto, using(crate::proofs::UpToHalt::writes))]
 pub fn pieces_up_to_a_halt_are_the_outcome()
     ensures { PiecesUpToAHaltAreTheOutcome }
 {}
