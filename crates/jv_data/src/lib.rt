@@ -10,10 +10,12 @@
 mod comparing;
 mod containers;
 mod copying;
+mod dropping;
 mod failures;
 mod kinds;
 pub mod laws;
 mod ordering;
+mod pairs;
 mod raising;
 mod values;
 

@@ -12,6 +12,10 @@ ghost use Rattle.jv_data.specs.View.{view};
 ghost use Rattle.jv_data.specs.declared.kinds.Kind.TheVariants as kind;
 
 use crate::containers::{Array, Object, SharedText};
+use crate::dropping::{
+    discard_items, discard_members, items_may_be_deep, members_may_be_deep, take_items_apart,
+    take_members_apart,
+};
 use crate::kinds::Kind;
 use std::alloc::{AllocError, Global};
 
@@ -27,6 +31,7 @@ pub enum Val {
 
 // Not derived: code that drops a value calls this, whereas a derived drop is written out at each of its places, with an arm for
 // each kind, and lengthens the proof there.
+// The drop of a container recurses once for each level, so a value that may be deep is taken apart first.
 impl Drop for Val {
     fn drop(self) {
         match self {
@@ -34,8 +39,16 @@ impl Drop for Val {
             Val::Bool(_) => {}
             Val::Num(_) => {}
             Val::Text(_) => {}
-            Val::List(_) => {}
-            Val::Table(_) => {}
+            Val::List(items) => {
+                if items_may_be_deep(&items) {
+                    take_items_apart(items)
+                }
+            }
+            Val::Table(members) => {
+                if members_may_be_deep(&members) {
+                    take_members_apart(members)
+                }
+            }
         }
     }
 }
@@ -85,6 +98,19 @@ impl Val {
         match self {
             Val::Table(members) => members,
             _ => unreachable!(),
+        }
+    }
+
+    // Drops the value, all levels of it by recursion.
+    #[cycle(discarding)]
+    pub(crate) fn discard(self) {
+        match self {
+            Val::Null => {}
+            Val::Bool(_) => {}
+            Val::Num(_) => {}
+            Val::Text(_) => {}
+            Val::List(items) => discard_items(items),
+            Val::Table(members) => discard_members(members),
         }
     }
 }

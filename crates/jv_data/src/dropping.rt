@@ -1,0 +1,171 @@
+// What the drop of a value does: it takes no memory, and little of the stack however deep the value is.
+use crate::Val;
+use crate::containers::{Array, Object};
+use std::collections::BTreeMap;
+use std::mem;
+
+// How many levels of a value may be dropped by recursion.
+const NEAR: usize = 16;
+
+impl Val {
+    // The first part of a container, if this is the only reference to its parts.
+    fn first_part(&mut self) -> Option<&mut Val> {
+        match self {
+            Val::List(items) => items.only()?.first_mut(),
+            Val::Table(members) => match members.only()?.first_entry() {
+                Some(entry) => Some(entry.into_mut()),
+                None => None,
+            },
+            _ => None,
+        }
+    }
+
+    // Takes the last part out of a container, if this is the only reference to its parts.
+    fn take_last(&mut self) -> Option<Val> {
+        match self {
+            Val::List(items) => items.only()?.pop(),
+            Val::Table(members) => match members.only()?.pop_last() {
+                Some((_, member)) => Some(member),
+                None => None,
+            },
+            _ => None,
+        }
+    }
+}
+
+pub(crate) fn items_may_be_deep(items: &Array<Val>) -> bool {
+    match items.if_only() {
+        None => false,
+        Some(items) => may_be_deep(items.as_slice(), NEAR),
+    }
+}
+
+pub(crate) fn members_may_be_deep(members: &Object<Val>) -> bool {
+    match members.if_only() {
+        None => false,
+        Some(members) => may_lead_deep(members, NEAR),
+    }
+}
+
+// Whether some of the items may have more than this many levels. Of a container with other references, which the drop of
+// these items leaves alone, that is not known.
+#[cycle(nesting)]
+fn may_be_deep(items: &[Val], levels: usize) -> bool {
+    for item in items {
+        if leads_deep(item, levels) {
+            return true;
+        }
+    }
+    false
+}
+
+#[cycle(nesting)]
+fn may_lead_deep(members: &BTreeMap<String, Val>, levels: usize) -> bool {
+    for member in members.values() {
+        if leads_deep(member, levels) {
+            return true;
+        }
+    }
+    false
+}
+
+// Inlined, so that only an array or an object costs a call.
+#[cycle(nesting)]
+#[inline(always)]
+fn leads_deep(value: &Val, levels: usize) -> bool {
+    match value {
+        Val::List(items) => match items.if_only() {
+            Some(items) if levels != 0 => may_be_deep(items.as_slice(), levels - 1),
+            _ => true,
+        },
+        Val::Table(members) => match members.if_only() {
+            Some(members) if levels != 0 => may_lead_deep(members, levels - 1),
+            _ => true,
+        },
+        _ => false,
+    }
+}
+
+pub(crate) fn take_items_apart(items: Array<Val>) {
+    match items.into_last() {
+        None => {}
+        Some(mut items) => {
+            while let Some(item) = items.pop() {
+                take_apart(item);
+            }
+            items.destroy_empty()
+        }
+    }
+}
+
+pub(crate) fn take_members_apart(members: Object<Val>) {
+    match members.into_last() {
+        None => {}
+        Some(mut members) => {
+            while let Some((_, member)) = members.pop_last() {
+                take_apart(member);
+            }
+            members.destroy_empty()
+        }
+    }
+}
+
+// Drops a value of any depth. What is left of the containers above the next part hangs in that part, in the place of the
+// part's own first part, which comes next. So there is always a place for it.
+fn take_apart(value: Val) {
+    let mut above = Val::Null;
+    let mut part = value;
+    // (this many steps are never made, but show that the loop ends)
+    for _ in 0..u64::MAX {
+        match part.first_part() {
+            Some(first) => {
+                let next = mem::replace(first, above);
+                above = part;
+                part = next;
+            }
+            None => {
+                part.discard();
+                match above.take_last() {
+                    None => return above.discard(),
+                    Some(last) => {
+                        if above.first_part().is_some() {
+                            part = last;
+                        } else {
+                            above.discard();
+                            above = last;
+                            part = Val::Null;
+                        }
+                    }
+                }
+            }
+        }
+    }
+    above.discard();
+    part.discard()
+}
+
+#[cycle(discarding)]
+pub(crate) fn discard_items(items: Array<Val>) {
+    match items.into_last() {
+        None => {}
+        Some(mut items) => {
+            while let Some(item) = items.pop() {
+                item.discard();
+            }
+            items.destroy_empty()
+        }
+    }
+}
+
+#[cycle(discarding)]
+pub(crate) fn discard_members(members: Object<Val>) {
+    match members.into_last() {
+        None => {}
+        Some(mut members) => {
+            while let Some((_, member)) = members.pop_last() {
+                member.discard();
+            }
+            members.destroy_empty()
+        }
+    }
+}
