@@ -76,7 +76,7 @@ fn as_a_fresh_session(rt: HostRuntime) -> Result<(), Fail> {
         spare = old;
     }
     let last = session.into_starts();
-    assert_eq!(&rt; last.count() + spare.count(), total);
+    assert_eq!(&rt; last.count().checked_add(spare.count()), Some(total));
     Ok(())
 }
 
