@@ -1,4 +1,4 @@
-// A move: a removal and an insertion, of which both are made or neither. What the removal took out stays at hand until the insertion
+// A move: a removal and an insertion, of which both are made or neither. What the removal took out is kept until the insertion
 // is made; if that is refused, it is put back, which needs no memory.
 ghost use Rattle.std.specs.Prelude.{◌≡◌, ℕ, ◌+◌, ◌<◌, ◌≤◌, ◌^◌, ◌∷◌, ◌++◌, [], length, map, take, slice_index_or, IfOk, OnErr, OnOk, IsTrue, IsFalse};
 ghost use Rattle.jv_data.specs.View.{view};

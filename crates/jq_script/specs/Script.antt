@@ -165,7 +165,7 @@ IsTurnOf o (request r) s t a b = IsTurn r s t × MayStart r s a b
 IsTurnOf o (filter bytes) s t a b = IsFilterTurn o bytes s t a b
 
 -- The bytes that tell what was made, which led from one state to another: any splices that turn the old output and errors into the
--- new ones, and put in no more than the session says. A move is told as its removal and then its insertion.
+-- new ones, and put in no more than the session says. Of a move these are those of its removal and then of its insertion.
 abbrev pub Tells : Made → (old new : State) → List ℕ → Type 0
 Tells (edited edit) old new bytes = (f : Follow) × Follows f edit old new × (bytes ≡ changes f)
 Tells (moved k l) old new bytes = (f : Follow) × (g : Follow) × FollowsMove f g k l old new × (bytes ≡ changes f ++ changes g)

@@ -11,7 +11,7 @@ pub(crate) enum Following {
     Each,
     /// It runs the steps of the filter's fold, up to a page after which the state is unchanged.
     Fold,
-    /// It runs the steps up to the first input whose run halts, from a state on that says whether one halted.
+    /// It runs the inputs up to the first whose run halts, up to a page after which it is as before whether a run has halted.
     UntilHalt,
     /// It makes the one run again.
     Whole,
