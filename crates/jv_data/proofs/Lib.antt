@@ -4,3 +4,4 @@ pub mod Utf8
 pub mod Shares
 pub mod Places
 pub mod Messages
+pub mod Depths

@@ -10,6 +10,7 @@
 mod comparing;
 mod containers;
 mod copying;
+mod dropping;
 mod failures;
 mod kinds;
 pub mod laws;

@@ -12,6 +12,7 @@ ghost use Rattle.jv_data.specs.View.{view};
 ghost use Rattle.jv_data.specs.declared.kinds.Kind.TheVariants as kind;
 
 use crate::containers::{Array, Object, SharedText};
+use crate::dropping::{NEAR, discard_items, discard_members, release_items, release_members};
 use crate::kinds::Kind;
 use std::alloc::{AllocError, Global};
 
@@ -28,15 +29,9 @@ pub enum Val {
 // Not derived: code that drops a value calls this, whereas a derived drop is written out at each of its places, with an arm for
 // each kind, and lengthens the proof there.
 impl Drop for Val {
+    #[cycle(dropping)]
     fn drop(self) {
-        match self {
-            Val::Null => {}
-            Val::Bool(_) => {}
-            Val::Num(_) => {}
-            Val::Text(_) => {}
-            Val::List(_) => {}
-            Val::Table(_) => {}
-        }
+        self.release(NEAR)
     }
 }
 
@@ -85,6 +80,32 @@ impl Val {
         match self {
             Val::Table(members) => members,
             _ => unreachable!(),
+        }
+    }
+
+    // Drops the value, this many levels of it by recursion.
+    #[cycle(dropping)]
+    pub(crate) fn release(self, levels: usize) {
+        match self {
+            Val::Null => {}
+            Val::Bool(_) => {}
+            Val::Num(_) => {}
+            Val::Text(_) => {}
+            Val::List(items) => release_items(items, levels),
+            Val::Table(members) => release_members(members, levels),
+        }
+    }
+
+    // Drops the value, all levels of it by recursion.
+    #[cycle(discarding)]
+    pub(crate) fn discard(self) {
+        match self {
+            Val::Null => {}
+            Val::Bool(_) => {}
+            Val::Num(_) => {}
+            Val::Text(_) => {}
+            Val::List(items) => discard_items(items),
+            Val::Table(members) => discard_members(members),
         }
     }
 }

@@ -1,5 +1,5 @@
 // Arrays that several values share.
-ghost use Rattle.std.specs.Prelude.{◌≡◌, ◌⊎◌, ◌++◌, ◌∷◌, [], IfOk, OnErr, OnOk, length, map, option_map, slice_get};
+ghost use Rattle.std.specs.Prelude.{◌≡◌, ◌⊎◌, ◌++◌, ◌∷◌, [], IfOk, IfSome, OnErr, OnOk, length, map, option_map, slice_get};
 ghost use Rattle.std.specs.List.{AllZip};
 ghost use Rattle.jv_data.specs.Held.{values_in};
 ghost use Rattle.jv_data.specs.Shared.{items_in};
@@ -46,6 +46,21 @@ impl<T: Drop> Array<T> {
         ensures { result ≡ length (items_in self.now) }
     {
         self.items.len()
+    }
+}
+
+impl<T> Array<T> {
+    // The items, if this is the last reference to them. Otherwise there is one reference less.
+    pub(crate) fn into_last(self) -> Option<Vec<T>>
+        ensures { IfSome result (λ v. v.items ≡ items_in self) }
+    {
+        let Array { items } = self;
+        Rc::into_inner(items)
+    }
+
+    // The items, if this is the only reference to them.
+    pub(crate) fn only(&mut self) -> Option<&mut Vec<T>> {
+        Rc::get_mut(&mut self.items)
     }
 }
 

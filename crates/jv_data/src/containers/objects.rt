@@ -1,5 +1,5 @@
 // Objects that several values share.
-ghost use Rattle.std.specs.Prelude.{◌≡◌, IfOk, OnErr, OnOk, String, length, option_map};
+ghost use Rattle.std.specs.Prelude.{◌≡◌, IfOk, IfSome, OnErr, OnOk, String, length, option_map};
 ghost use Rattle.std.specs.declared.alloc.Global.{Global};
 ghost use Rattle.std.specs.Str.{chars};
 ghost use Rattle.std.specs.Map.Iter.{ShowsInOrder, ShowsValuesInOrder, deref_pair};
@@ -39,6 +39,21 @@ impl<T: Drop> Object<T> {
         Ok(Object {
             members: self.members.clone()?,
         })
+    }
+}
+
+impl<T> Object<T> {
+    // The members, if this is the last reference to them. Otherwise there is one reference less.
+    pub(crate) fn into_last(self) -> Option<BTreeMap<String, T>>
+        ensures { IfSome result (λ m. m.entries ≡ entries_in self) }
+    {
+        let Object { members } = self;
+        Rc::into_inner(members)
+    }
+
+    // The members, if this is the only reference to them.
+    pub(crate) fn only(&mut self) -> Option<&mut BTreeMap<String, T>> {
+        Rc::get_mut(&mut self.members)
     }
 }
 

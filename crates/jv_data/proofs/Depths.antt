@@ -1,0 +1,14 @@
+-- How deep the values of a map are. A drop ends, since the parts of a value are less deep.
+use Rattle.std.proofs.Common.{◌≡◌, ℕ, List, [], ◌∷◌, ◌++◌, max, arith}
+use Rattle.std.specs.Map.{values_of}
+use denote.Param.Weighed.{most}
+use Rattle.jv_data.proofs.values.Val.TheLaws.{the_size}
+use Rattle.jv_data.proofs.Views.{Entry}
+
+-- the depth of the deepest of the values
+abbrev pub depth_under : List Entry → ℕ
+depth_under es = most the_size (values_of es)
+
+pub depth_under-last : (es : List Entry) (e : Entry) → depth_under (es ++ e ∷ []) ≡ max (depth_under es) (the_size e.1)
+depth_under-last [] e = omega arith
+depth_under-last (d ∷ es) e = let h = depth_under-last es e in omega arith
