@@ -1,11 +1,11 @@
-// Dropping values: it takes no memory, and little of the stack however deep a value is.
+// What the drop of a value does: it takes no memory, and little of the stack however deep the value is.
 use crate::Val;
 use crate::containers::{Array, Object};
 use std::collections::BTreeMap;
 use std::mem;
 
-// How many levels of a value are dropped by recursion. What is deeper is taken apart in a loop, which is slower.
-pub(crate) const NEAR: usize = 100;
+// How many levels of a value may be dropped by recursion.
+pub(crate) const NEAR: usize = 16;
 
 impl Val {
     // The first part of a container, if this is the only reference to its parts.
@@ -33,51 +33,57 @@ impl Val {
     }
 }
 
-#[cycle(dropping)]
-pub(crate) fn release_items(items: Array<Val>, levels: usize) {
-    match items.into_last() {
-        None => {}
-        Some(mut items) => {
-            while let Some(item) = items.pop() {
-                release_part(item, levels);
-            }
-            items.destroy_empty()
-        }
-    }
-}
-
-// The map's own drop is faster, but does not know at which level of the value it is.
-#[cycle(dropping)]
-pub(crate) fn release_members(members: Object<Val>, levels: usize) {
-    match members.into_last() {
-        None => {}
-        Some(mut members) => {
-            if holds_containers(&members) {
-                while let Some((_, member)) = members.pop_last() {
-                    release_part(member, levels);
-                }
-                members.destroy_empty()
-            }
-        }
-    }
-}
-
-#[cycle(dropping)]
-fn release_part(part: Val, levels: usize) {
-    if levels == 0 {
-        take_apart(part)
-    } else {
-        part.release(levels - 1)
-    }
-}
-
-fn holds_containers(members: &BTreeMap<String, Val>) -> bool {
-    for member in members.values() {
-        if let Val::List(_) | Val::Table(_) = member {
+// Whether some of the items may have more than this many levels. Of a container with other references, which the drop of
+// these items leaves alone, that is not known.
+#[cycle(nesting)]
+pub(crate) fn may_be_deep(items: &[Val], levels: usize) -> bool {
+    for item in items {
+        if leads_deep(item, levels) {
             return true;
         }
     }
     false
+}
+
+#[cycle(nesting)]
+pub(crate) fn may_lead_deep(members: &BTreeMap<String, Val>, levels: usize) -> bool {
+    for member in members.values() {
+        if leads_deep(member, levels) {
+            return true;
+        }
+    }
+    false
+}
+
+// Inlined, so that only an array or an object costs a call.
+#[cycle(nesting)]
+#[inline(always)]
+fn leads_deep(value: &Val, levels: usize) -> bool {
+    match value {
+        Val::List(items) => match items.if_only() {
+            Some(items) if levels != 0 => may_be_deep(items.as_slice(), levels - 1),
+            _ => true,
+        },
+        Val::Table(members) => match members.if_only() {
+            Some(members) if levels != 0 => may_lead_deep(members, levels - 1),
+            _ => true,
+        },
+        _ => false,
+    }
+}
+
+pub(crate) fn take_items_apart(mut items: Vec<Val>) {
+    while let Some(item) = items.pop() {
+        take_apart(item);
+    }
+    items.destroy_empty()
+}
+
+pub(crate) fn take_members_apart(mut members: BTreeMap<String, Val>) {
+    while let Some((_, member)) = members.pop_last() {
+        take_apart(member);
+    }
+    members.destroy_empty()
 }
 
 // Drops a value of any depth. What is left of the containers above the next part hangs in that part, in the place of the

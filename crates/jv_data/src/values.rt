@@ -12,7 +12,10 @@ ghost use Rattle.jv_data.specs.View.{view};
 ghost use Rattle.jv_data.specs.declared.kinds.Kind.TheVariants as kind;
 
 use crate::containers::{Array, Object, SharedText};
-use crate::dropping::{NEAR, discard_items, discard_members, release_items, release_members};
+use crate::dropping::{
+    NEAR, discard_items, discard_members, may_be_deep, may_lead_deep, take_items_apart,
+    take_members_apart,
+};
 use crate::kinds::Kind;
 use std::alloc::{AllocError, Global};
 
@@ -28,10 +31,31 @@ pub enum Val {
 
 // Not derived: code that drops a value calls this, whereas a derived drop is written out at each of its places, with an arm for
 // each kind, and lengthens the proof there.
+// The drop of a container recurses once for each level, so a value that may be deep is taken apart first.
 impl Drop for Val {
-    #[cycle(dropping)]
     fn drop(self) {
-        self.release(NEAR)
+        match self {
+            Val::Null => {}
+            Val::Bool(_) => {}
+            Val::Num(_) => {}
+            Val::Text(_) => {}
+            Val::List(items) => match items.into_last() {
+                None => {}
+                Some(items) => {
+                    if may_be_deep(items.as_slice(), NEAR) {
+                        take_items_apart(items)
+                    }
+                }
+            },
+            Val::Table(members) => match members.into_last() {
+                None => {}
+                Some(members) => {
+                    if may_lead_deep(&members, NEAR) {
+                        take_members_apart(members)
+                    }
+                }
+            },
+        }
     }
 }
 
@@ -80,19 +104,6 @@ impl Val {
         match self {
             Val::Table(members) => members,
             _ => unreachable!(),
-        }
-    }
-
-    // Drops the value, this many levels of it by recursion.
-    #[cycle(dropping)]
-    pub(crate) fn release(self, levels: usize) {
-        match self {
-            Val::Null => {}
-            Val::Bool(_) => {}
-            Val::Num(_) => {}
-            Val::Text(_) => {}
-            Val::List(items) => release_items(items, levels),
-            Val::Table(members) => release_members(members, levels),
         }
     }
 

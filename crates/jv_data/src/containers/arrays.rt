@@ -59,6 +59,15 @@ impl<T> Array<T> {
     }
 
     // The items, if this is the only reference to them.
+    pub(crate) fn if_only(&self) -> Option<&Vec<T>> {
+        if Rc::strong_count(&self.items) == 1 {
+            Some(self.items.as_ref())
+        } else {
+            None
+        }
+    }
+
+    // The same, to change them.
     pub(crate) fn only(&mut self) -> Option<&mut Vec<T>> {
         Rc::get_mut(&mut self.items)
     }

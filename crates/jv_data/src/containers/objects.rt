@@ -52,6 +52,15 @@ impl<T> Object<T> {
     }
 
     // The members, if this is the only reference to them.
+    pub(crate) fn if_only(&self) -> Option<&BTreeMap<String, T>> {
+        if Rc::strong_count(&self.members) == 1 {
+            Some(self.members.as_ref())
+        } else {
+            None
+        }
+    }
+
+    // The same, to change them.
     pub(crate) fn only(&mut self) -> Option<&mut BTreeMap<String, T>> {
         Rc::get_mut(&mut self.members)
     }
