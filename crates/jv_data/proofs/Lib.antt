@@ -5,3 +5,4 @@ pub mod Shares
 pub mod Places
 pub mod Messages
 pub mod Depths
+pub mod Pending

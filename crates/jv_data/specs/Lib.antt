@@ -3,3 +3,4 @@ pub mod Shared
 pub mod View
 pub mod Held
 pub mod Fails
+pub mod private

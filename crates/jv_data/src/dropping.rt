@@ -5,7 +5,7 @@ use std::collections::BTreeMap;
 use std::mem;
 
 // How many levels of a value may be dropped by recursion.
-pub(crate) const NEAR: usize = 16;
+const NEAR: usize = 16;
 
 impl Val {
     // The first part of a container, if this is the only reference to its parts.
@@ -33,10 +33,24 @@ impl Val {
     }
 }
 
+pub(crate) fn items_may_be_deep(items: &Array<Val>) -> bool {
+    match items.if_only() {
+        None => false,
+        Some(items) => may_be_deep(items.as_slice(), NEAR),
+    }
+}
+
+pub(crate) fn members_may_be_deep(members: &Object<Val>) -> bool {
+    match members.if_only() {
+        None => false,
+        Some(members) => may_lead_deep(members, NEAR),
+    }
+}
+
 // Whether some of the items may have more than this many levels. Of a container with other references, which the drop of
 // these items leaves alone, that is not known.
 #[cycle(nesting)]
-pub(crate) fn may_be_deep(items: &[Val], levels: usize) -> bool {
+fn may_be_deep(items: &[Val], levels: usize) -> bool {
     for item in items {
         if leads_deep(item, levels) {
             return true;
@@ -46,7 +60,7 @@ pub(crate) fn may_be_deep(items: &[Val], levels: usize) -> bool {
 }
 
 #[cycle(nesting)]
-pub(crate) fn may_lead_deep(members: &BTreeMap<String, Val>, levels: usize) -> bool {
+fn may_lead_deep(members: &BTreeMap<String, Val>, levels: usize) -> bool {
     for member in members.values() {
         if leads_deep(member, levels) {
             return true;
@@ -72,18 +86,28 @@ fn leads_deep(value: &Val, levels: usize) -> bool {
     }
 }
 
-pub(crate) fn take_items_apart(mut items: Vec<Val>) {
-    while let Some(item) = items.pop() {
-        take_apart(item);
+pub(crate) fn take_items_apart(items: Array<Val>) {
+    match items.into_last() {
+        None => {}
+        Some(mut items) => {
+            while let Some(item) = items.pop() {
+                take_apart(item);
+            }
+            items.destroy_empty()
+        }
     }
-    items.destroy_empty()
 }
 
-pub(crate) fn take_members_apart(mut members: BTreeMap<String, Val>) {
-    while let Some((_, member)) = members.pop_last() {
-        take_apart(member);
+pub(crate) fn take_members_apart(members: Object<Val>) {
+    match members.into_last() {
+        None => {}
+        Some(mut members) => {
+            while let Some((_, member)) = members.pop_last() {
+                take_apart(member);
+            }
+            members.destroy_empty()
+        }
     }
-    members.destroy_empty()
 }
 
 // Drops a value of any depth. What is left of the containers above the next part hangs in that part, in the place of the

@@ -15,6 +15,7 @@ mod failures;
 mod kinds;
 pub mod laws;
 mod ordering;
+mod pairs;
 mod raising;
 mod values;
 

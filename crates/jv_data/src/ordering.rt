@@ -1,10 +1,12 @@
-// The order of values. It takes no memory.
-ghost use Rattle.std.specs.Prelude.{◌≡◌, ◌↔◌, IsTrue};
+// The order of values.
+ghost use Rattle.std.specs.Prelude.{◌≡◌, ◌↔◌, IfSome, IsTrue};
 ghost use Rattle.std.specs.Cmp.Lexicographic.{slice_cmp};
 ghost use Rattle.jv_data.specs.Held.{members_in};
 ghost use Rattle.jv_meaning.specs.Value.{rank, compare, compare_items, compare_members, keys, text_cmp};
 ghost use Rattle.jv_data.specs.View.{view, items_view};
+ghost use Rattle.jv_data.specs.private.Pairs.{parts_order};
 
+use crate::pairs::{Pair, order_in_list, pair_of};
 use crate::{Object, Val};
 use std::cmp::Ordering;
 
@@ -12,6 +14,34 @@ use std::cmp::Ordering;
 /// item by item, objects by their sorted keys and then value by value.
 #[cycle(ordering)]
 pub fn order(left: &Val, right: &Val) -> Ordering
+    ensures { result ≡ compare (view left.now) (view right.now) }
+{
+    match pair_of(left, right) {
+        Err(ordering) => ordering,
+        Ok(pair) => match in_list(left, pair) {
+            Some(ordering) => ordering,
+            None => order_by_parts(left, right),
+        },
+    }
+}
+
+// Two containers by a list of what is open. `None` if the list could not grow.
+fn in_list(left: &Val, pair: Pair<'_>) -> Option<Ordering>
+    ensures { IfSome result (λ o. o ≡ parts_order pair.entry) }
+{
+    match left {
+        Val::List(items) => order_in_list(items.allocator(), pair),
+        Val::Table(members) => match members.iter().next() {
+            Some((key, _)) => order_in_list(*key.allocator(), pair),
+            None => None,
+        },
+        _ => None,
+    }
+}
+
+// The same by recursion, which takes no memory.
+#[cycle(ordering)]
+fn order_by_parts(left: &Val, right: &Val) -> Ordering
     ensures { result ≡ compare (view left.now) (view right.now) }
 {
     match (left, right) {
@@ -34,7 +64,7 @@ pub fn same(left: &Val, right: &Val) -> bool
     order(left, right).is_eq()
 }
 
-fn rank(value: &Val) -> u8
+pub(crate) fn rank(value: &Val) -> u8
     ensures { result ≡ rank (view value.now) }
 {
     match value {
@@ -69,7 +99,7 @@ fn order_items(left: &[Val], right: &[Val]) -> Ordering
 }
 
 // Key by key; a prefix comes first.
-fn order_keys(left: &Object<Val>, right: &Object<Val>) -> Ordering
+pub(crate) fn order_keys(left: &Object<Val>, right: &Object<Val>) -> Ordering
     ensures { result ≡ slice_cmp text_cmp (keys (members_in left.now)) (keys (members_in right.now)) }
 {
     let mut others = right.iter();

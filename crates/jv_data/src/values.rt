@@ -13,7 +13,7 @@ ghost use Rattle.jv_data.specs.declared.kinds.Kind.TheVariants as kind;
 
 use crate::containers::{Array, Object, SharedText};
 use crate::dropping::{
-    NEAR, discard_items, discard_members, may_be_deep, may_lead_deep, take_items_apart,
+    discard_items, discard_members, items_may_be_deep, members_may_be_deep, take_items_apart,
     take_members_apart,
 };
 use crate::kinds::Kind;
@@ -39,22 +39,16 @@ impl Drop for Val {
             Val::Bool(_) => {}
             Val::Num(_) => {}
             Val::Text(_) => {}
-            Val::List(items) => match items.into_last() {
-                None => {}
-                Some(items) => {
-                    if may_be_deep(items.as_slice(), NEAR) {
-                        take_items_apart(items)
-                    }
+            Val::List(items) => {
+                if items_may_be_deep(&items) {
+                    take_items_apart(items)
                 }
-            },
-            Val::Table(members) => match members.into_last() {
-                None => {}
-                Some(members) => {
-                    if may_lead_deep(&members, NEAR) {
-                        take_members_apart(members)
-                    }
+            }
+            Val::Table(members) => {
+                if members_may_be_deep(&members) {
+                    take_members_apart(members)
                 }
-            },
+            }
         }
     }
 }

@@ -50,6 +50,10 @@ impl<T: Drop> Array<T> {
 }
 
 impl<T> Array<T> {
+    pub(crate) fn allocator(&self) -> Global {
+        *self.items.as_ref().allocator()
+    }
+
     // The items, if this is the last reference to them. Otherwise there is one reference less.
     pub(crate) fn into_last(self) -> Option<Vec<T>>
         ensures { IfSome result (λ v. v.items ≡ items_in self) }
