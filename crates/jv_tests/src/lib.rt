@@ -9,6 +9,8 @@ mod calls;
 #[cfg(test)]
 mod containers;
 #[cfg(test)]
+mod deep;
+#[cfg(test)]
 mod memory;
 #[cfg(test)]
 mod reading;

@@ -13,3 +13,4 @@ pub mod FieldTexts
 pub mod UriBytes
 pub mod Literals
 pub mod FormatNames
+pub mod OpenTokens

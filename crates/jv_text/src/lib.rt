@@ -6,6 +6,7 @@
 mod cutting;
 mod faults;
 mod formats;
+mod nested;
 mod numbers;
 mod printing;
 mod reading;

@@ -10,6 +10,7 @@ ghost use Rattle.jv_data.specs.View.{view, items_view};
 ghost use Rattle.jv_text.specs.Printed.{printed, value_text, laid_out, bytes_or, compact, pretty, json_text, text_of_value, tokens_of};
 ghost use Rattle.jv_text.specs.private.PrintedTokens.{tokens_of_items, tokens_of_members};
 
+use crate::nested::write_in_list;
 use crate::sinks::Tokens;
 use json::{Pretty, Token, Writer};
 use jv_data::{NoMemory, Object, Val};
@@ -19,6 +20,9 @@ use std::mem;
 
 // Most texts of values are shorter than this, in bytes.
 const SHORT: usize = 512;
+
+// How many levels of a value are printed by recursion. For what is deeper there is a list, which takes memory.
+const NEAR: usize = 100;
 
 /// How values are printed. Each field is an option of the command `jql`.
 #[derive(Clone, Copy, Debug, PartialEq, Eq)]
@@ -150,7 +154,7 @@ fn print_after(alloc: Global, value: &Val, out: &mut Vec<u8>) -> Result<(), Allo
     ensures front { (more : List ℕ) × (out.new.items ≡ out.old.items ++ more) }
 {
     let mut writer = Writer::new(mem::replace(out, Vec::new(alloc)));
-    let written = write(value, &mut writer);
+    let written = write(alloc, value, NEAR, &mut writer);
     *out = writer.into_inner();
     written
 }
@@ -169,8 +173,9 @@ fn compact_bytes(value: &Val, room: Vec<u8>) -> Result<Vec<u8>, AllocError>
     ensures text { IfOk result (λ bytes. bytes.items ≡ compact (view value.now)) }
     ensures utf8 { IfOk result (λ bytes. IsUtf8 bytes.items) }
 {
+    let alloc = *room.allocator();
     let mut writer = Writer::new(room);
-    write(value, &mut writer)?;
+    write(alloc, value, NEAR, &mut writer)?;
     Ok(writer.into_inner())
 }
 
@@ -179,15 +184,21 @@ fn print_pretty(alloc: Global, value: &Val, out: &mut Vec<u8>) -> Result<(), All
     ensures front { (more : List ℕ) × (out.new.items ≡ out.old.items ++ more) }
 {
     let mut writer = Pretty::new(alloc);
-    write(value, &mut writer)?;
+    write(alloc, value, NEAR, &mut writer)?;
     let bytes = writer.into_inner();
     out.extend_from_slice(bytes.as_slice())
 }
 
-// Inlined into the loops over items and members, so that only an array or an object costs a call.
+// The tokens of a value, this many levels of it by recursion. Inlined into the loops over items and members, so that only an
+// array or an object costs a call.
 #[cycle(writing)]
 #[inline(always)]
-fn write<W: Tokens>(value: &Val, out: &mut W) -> Result<(), AllocError>
+fn write<W: Tokens>(
+    alloc: Global,
+    value: &Val,
+    levels: usize,
+    out: &mut W,
+) -> Result<(), AllocError>
     ensures ok { OnOk result (W.Tokens.written out.new ≡ W.Tokens.written out.old ++ tokens_of (view value.now)) }
     ensures before { W.Tokens.before out.new ≡ W.Tokens.before out.old }
 {
@@ -196,12 +207,22 @@ fn write<W: Tokens>(value: &Val, out: &mut W) -> Result<(), AllocError>
         Val::Bool(b) => out.token(Token::Bool(*b)),
         Val::Num(n) => write_number(*n, out),
         Val::Text(text) => out.token(Token::String(text.as_str())),
-        Val::List(items) => write_items(items.as_slice(), out),
-        Val::Table(members) => write_members(members, out),
+        Val::List(items) => {
+            if levels == 0 {
+                return write_in_list(alloc, value, out);
+            }
+            write_items(alloc, items.as_slice(), levels - 1, out)
+        }
+        Val::Table(members) => {
+            if levels == 0 {
+                return write_in_list(alloc, value, out);
+            }
+            write_members(alloc, members, levels - 1, out)
+        }
     }
 }
 
-fn write_number<W: Tokens>(n: i64, out: &mut W) -> Result<(), AllocError>
+pub(crate) fn write_number<W: Tokens>(n: i64, out: &mut W) -> Result<(), AllocError>
     ensures ok { OnOk result (W.Tokens.written out.new ≡ W.Tokens.written out.old ++ number (signed_decimal n) ∷ []) }
     ensures before { W.Tokens.before out.new ≡ W.Tokens.before out.old }
 {
@@ -211,27 +232,37 @@ fn write_number<W: Tokens>(n: i64, out: &mut W) -> Result<(), AllocError>
 
 #[cycle(writing)]
 #[inline(never)]
-fn write_items<W: Tokens>(items: &[Val], out: &mut W) -> Result<(), AllocError>
+fn write_items<W: Tokens>(
+    alloc: Global,
+    items: &[Val],
+    levels: usize,
+    out: &mut W,
+) -> Result<(), AllocError>
     ensures ok { OnOk result (W.Tokens.written out.new ≡ W.Tokens.written out.old ++ begin_array ∷ tokens_of_items (items_view items.now)) }
     ensures before { W.Tokens.before out.new ≡ W.Tokens.before out.old }
 {
     out.token(Token::BeginArray)?;
     for item in items {
-        write(item, out)?;
+        write(alloc, item, levels, out)?;
     }
     out.token(Token::EndArray)
 }
 
 #[cycle(writing)]
 #[inline(never)]
-fn write_members<W: Tokens>(members: &Object<Val>, out: &mut W) -> Result<(), AllocError>
+fn write_members<W: Tokens>(
+    alloc: Global,
+    members: &Object<Val>,
+    levels: usize,
+    out: &mut W,
+) -> Result<(), AllocError>
     ensures ok { OnOk result (W.Tokens.written out.new ≡ W.Tokens.written out.old ++ begin_object ∷ tokens_of_members (members_in members.now)) }
     ensures before { W.Tokens.before out.new ≡ W.Tokens.before out.old }
 {
     out.token(Token::BeginObject)?;
     for (key, member) in members.iter() {
         out.token(Token::Key(key.as_str()))?;
-        write(member, out)?;
+        write(alloc, member, levels, out)?;
     }
     out.token(Token::EndObject)
 }

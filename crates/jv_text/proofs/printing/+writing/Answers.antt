@@ -12,11 +12,6 @@ write-returns-in-Text-clause-ok g t c =
     let seen = ap (λ v. tokens_of (view v)) c.in-Text.is ∙ tokens_of-Text c.in-Text.text in
     on_ok_weaker c.token-in-Text.result (λ e. e ∙ ap (λ ts. g.W.Tokens.written c.args.out.now ++ ts) (ap (λ s. Token.string s ∷ []) c.as_str.ensures ∙ sym seen)) c.token-in-Text.ensures.ok
 
-pub write-returns-in-Table-clause-ok : goal.write-returns-in-Table-clause-ok
-write-returns-in-Table-clause-ok g t c =
-    let seen = ap (λ v. tokens_of (view v)) c.in-Table.is ∙ tokens_of-Table c.in-Table.members in
-    on_ok_weaker c.write_members.result (λ e. e ∙ ap (λ ts. g.W.Tokens.written c.args.out.now ++ ts) (sym seen)) c.write_members.ensures.ok
-
 pub write_members-loop-key-preserved : goal.write_members-loop-key-preserved
 write_members-loop-key-preserved g t c =
     let before = g.W.Tokens.written c.loop-key.out in

@@ -1,0 +1,65 @@
+// Values of 100,000 levels: neither their order nor their text nor their drop takes a part of the stack for each level.
+use jv_data::{Array, Object, Val, order, same};
+use jv_text::to_compact_string;
+use std::alloc::{AllocError, Global};
+use std::cmp::Ordering;
+use std::process::Abort;
+use std::test::Fail;
+
+const LEVELS: usize = 100_000;
+
+fn in_array(alloc: Global, value: Val) -> Result<Val, AllocError> {
+    let mut items = Vec::with_capacity(alloc, 1)?;
+    items.push(value)?;
+    Ok(Val::List(Array::from_vec(alloc, items)?))
+}
+
+fn in_object(alloc: Global, value: Val) -> Result<Val, AllocError> {
+    let mut members = Object::new(alloc)?;
+    members.insert(String::from_str(alloc, "a")?, value)?;
+    Ok(Val::Table(members))
+}
+
+fn arrays(alloc: Global, innermost: i64) -> Result<Val, AllocError> {
+    let mut value = Val::Num(innermost);
+    for _ in 0..LEVELS {
+        value = in_array(alloc, value)?;
+    }
+    Ok(value)
+}
+
+fn objects(alloc: Global, innermost: i64) -> Result<Val, AllocError> {
+    let mut value = Val::Num(innermost);
+    for _ in 0..LEVELS {
+        value = in_object(alloc, value)?;
+    }
+    Ok(value)
+}
+
+// Of two values that are equal but for the innermost number.
+fn check(
+    rt: &(impl Abort + AllocGlobal),
+    value: &Val,
+    greater: &Val,
+    length: usize,
+) -> Result<(), Fail> {
+    assert_eq!(rt; order(value, greater), Ordering::Less);
+    assert_eq!(rt; order(greater, value), Ordering::Greater);
+    assert!(rt; same(value, value));
+    assert_eq!(rt; to_compact_string(rt.alloc(), value)?.len(), length);
+    Ok(())
+}
+
+#[test]
+fn arrays_of_many_levels(rt: HostRuntime) -> Result<(), Fail> {
+    let value = arrays(rt.alloc(), 1)?;
+    let greater = arrays(rt.alloc(), 2)?;
+    check(&rt, &value, &greater, 2 * LEVELS + 1)
+}
+
+#[test]
+fn objects_of_many_levels(rt: HostRuntime) -> Result<(), Fail> {
+    let value = objects(rt.alloc(), 1)?;
+    let greater = objects(rt.alloc(), 2)?;
+    check(&rt, &value, &greater, 6 * LEVELS + 1)
+}
