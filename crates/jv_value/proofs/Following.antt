@@ -1,5 +1,5 @@
 -- Locations that begin with a selector, and the others.
-use Rattle.std.proofs.Common.{◌≡◌, ◌∙◌, ◌+◌, ◌≤◌, ℕ, suc, List, [], ◌∷◌, ◌++◌, length, Bool, true, false, if◌then◌else◌, ap, sym, refl, arith}
+use Rattle.std.proofs.Common.{◌≡◌, ◌∙◌, ◌+◌, ℕ, List, [], ◌∷◌, ◌++◌, Bool, true, false, if◌then◌else◌, ap, sym, refl}
 use Rattle.std.proofs.lemmas.Cmp.{nat_list_cmp_total, tied_itself}
 use Rattle.std.specs.Ordering.{is_eq}
 use Rattle.jv_meaning.proofs.Order.{equal_from, tied_text}
@@ -7,7 +7,6 @@ use Rattle.jv_meaning.specs.Value.{Value, null, boolean, number, string, array, 
 use Rattle.jv_value.specs.private.ItemGroups.{grouped_from, groups_left, apart, begins_with}
 use Rattle.jv_value.specs.DeletePaths.{same_selector, following, names_itself, without_locations, items_left, members_left}
 use Rattle.jv_value.specs.Locations.{Selector, at, key, Location}
-use Rattle.jv_value.specs.private.Selectors.{selectors_in}
 
 pub text_itself : (s : List ℕ) → is_eq (text_cmp s s) ≡ true
 text_itself s = ap is_eq (tied_itself nat_list_cmp_total s)
@@ -65,20 +64,6 @@ mutual
   members_all_left no_members = refl
   members_all_left (member k v ms) = rw (without_nothing v, members_all_left ms)
 
-steps_cond : (b : Bool) (q : Location) (qs : List Location) (n : ℕ) → selectors_in qs + length qs ≤ n → selectors_in (if b then q ∷ qs else qs) + length (if b then q ∷ qs else qs) ≤ suc (length q) + n
-steps_cond true q qs n h = omega arith
-steps_cond false q qs n h = omega arith
-
--- one selector less for each location
-pub steps_after : (t : Selector) (qs : List Location) → selectors_in (following t qs) + length (following t qs) ≤ selectors_in qs
-steps_after t [] = omega arith
-steps_after t ([] ∷ qs) = let h = steps_after t qs in omega arith
-steps_after t ((u ∷ q) ∷ qs) = steps_cond (same_selector t u) q (following t qs) (selectors_in qs) (steps_after t qs)
-
-pub selectors-append : (qs rs : List Location) → selectors_in (qs ++ rs) ≡ selectors_in qs + selectors_in rs
-selectors-append [] rs = omega arith
-selectors-append (q ∷ qs) rs = let h = selectors-append qs rs in omega arith
-
 items_cond : (b : Bool) (v : Value) (vs : List Value) → items_of (if b then vs else v ∷ vs) ≡ (if b then items_of vs else item v (items_of vs))
 items_cond true v vs = refl
 items_cond false v vs = refl
@@ -89,23 +74,3 @@ groups_left-grouped_from qs i [] = refl
 groups_left-grouped_from qs i (v ∷ vs) =
     items_cond (names_itself (following (at i) qs)) (without_locations (following (at i) qs) v) (groups_left (grouped_from qs (i + 1) vs))
     ∙ ap (λ ws. if names_itself (following (at i) qs) then ws else item (without_locations (following (at i) qs) v) ws) (groups_left-grouped_from qs (i + 1) vs)
-
-left_cond : (b : Bool) (v : Value) (vs ws : List Value) → (if b then vs ++ ws else v ∷ (vs ++ ws)) ≡ (if b then vs else v ∷ vs) ++ ws
-left_cond true v vs ws = refl
-left_cond false v vs ws = refl
-
-pub groups_left-append : (xs ys : List (Value × List Location)) → groups_left (xs ++ ys) ≡ groups_left xs ++ groups_left ys
-groups_left-append [] ys = refl
-groups_left-append (x ∷ xs) ys = ap (λ ws. if names_itself x.1 then ws else without_locations x.1 x.0 ∷ ws) (groups_left-append xs ys) ∙ left_cond (names_itself x.1) (without_locations x.1 x.0) (groups_left xs) (groups_left ys)
-
--- fewer selectors in an item than in all
-pub steps_grouped : (qs : List Location) (i : ℕ) (vs : List Value) (before : List (Value × List Location)) (a : Value × List Location) (more : List (Value × List Location)) → before ++ a ∷ more ≡ grouped_from qs i vs → selectors_in a.1 + length a.1 ≤ selectors_in qs
-steps_grouped qs i [] [] a more e = absurd (cc)
-steps_grouped qs i [] (x ∷ before) a more e = absurd (cc)
-steps_grouped qs i (v ∷ vs) [] a more e =
-    let same : a ≡ (v, following (at i) qs) = cc in
-    let h = steps_after (at i) qs in
-    rw same h
-steps_grouped qs i (v ∷ vs) (x ∷ before) a more e =
-    let rest : before ++ a ∷ more ≡ grouped_from qs (i + 1) vs = cc in
-    steps_grouped qs (i + 1) vs before a more rest

@@ -1,5 +1,5 @@
 -- The groups with one more location, and with one group less.
-use Rattle.std.proofs.Common.{◌≡◌, ◌∙◌, ◌+◌, ◌<◌, ◌≤◌, List, [], ◌∷◌, ◌++◌, Bool, true, false, cond, if◌then◌else◌, Option, Some, None, IfSome, String, Global, string_bytes, string_cmp, nat_cmp, ap, sym, refl, ℕ, unwrap_or, arith}
+use Rattle.std.proofs.Common.{◌≡◌, ◌∙◌, List, [], ◌∷◌, ◌++◌, Bool, true, false, cond, if◌then◌else◌, Option, Some, None, String, Global, string_bytes, string_cmp, nat_cmp, ap, sym, refl, ℕ, unwrap_or}
 use Rattle.std.proofs.lemmas.List.{append-nil}
 use Rattle.std.proofs.lemmas.Map.Text.{is_eq-slice_cmp}
 use Rattle.std.proofs.lemmas.Slice.Eq.{bytes_eq-Decides}
@@ -7,18 +7,19 @@ use Rattle.std.specs.BTreeMap.{get, Updates, UpdatesBy}
 use Rattle.std.specs.Cmp.Lexicographic.{slice_cmp}
 use Rattle.std.specs.Map.{lookup}
 use Rattle.std.specs.Ordering.{is_eq}
-use Rattle.jv_meaning.proofs.Order.{equal_from, tied_text}
-use Rattle.jv_meaning.specs.Value.{Members, text_cmp}
+use Rattle.jv_meaning.proofs.Order.{compared, equal_from, is_equal, is_greater, is_less, tied_text}
+use Rattle.jv_meaning.specs.Members.{put}
+use Rattle.jv_meaning.specs.Value.{Value, object, Members, text_cmp}
 use Rattle.jv_meaning.specs.Text.{text_of}
 use Rattle.jv_data.specs.View.{members_view}
 use Rattle.jv_data.specs.declared.values.Val.{Val}
 use Rattle.jv_value.specs.private.ItemGroups.{apart}
 use Rattle.jv_value.specs.DeletePaths.{following, members_left}
 use Rattle.jv_value.specs.private.Groups.{Group, Groups, held_in, AreGrouped}
+use Rattle.jv_value.specs.private.Removals.{GroupsLeave}
 use Rattle.jv_value.specs.Locations.{Location, after, key}
-use Rattle.jv_value.specs.private.Selectors.{selectors_in}
 use Rattle.jv_value.specs.private.Locations.{locations_in}
-use Rattle.jv_value.proofs.Following.{following-append, following-apart, following-apart_other, selectors-append, steps_after}
+use Rattle.jv_value.proofs.Following.{following-append, following-apart, following-apart_other}
 use Rattle.jv_value.proofs.Texts.{same_texts}
 
 -- names are the same by their bytes as by their code points
@@ -43,15 +44,6 @@ same_more true t u g o n rest qs e f h i =
 same_more false t u g o n rest qs e f h i =
     ap held_in f ∙ i ∙ sym (after_more t u false rest qs e ∙ append-nil (following (key u) qs))
 
-more_steps : (o : Option Group) (l m : ℕ) → l ≤ m → IfSome o (λ g. selectors_in (locations_in g.items) < l) → IfSome o (λ g. selectors_in (locations_in g.items) < m)
-more_steps None l m h i = tt
-more_steps (Some g) l m h i = omega arith
-
-fewer_more : (b : Bool) (g : Group) (o n : Option Group) (l m : ℕ) → n ≡ cond b (Some g) (cond b None o) → selectors_in (locations_in g.items) < m → l ≤ m
-    → IfSome o (λ h. selectors_in (locations_in h.items) < l) → IfSome n (λ h. selectors_in (locations_in h.items) < m)
-fewer_more true g o n l m e f h i = rw e f
-fewer_more false g o n l m e f h i = rw e (more_steps o l m h i)
-
 pub grouped_more : (old mid new : Groups) (k : String Global) (g : Group) (rest : Location) (qs : List Location) → locations_in g.items ≡ held_in (get string_cmp old k) ++ rest ∷ []
     → UpdatesBy string_cmp (string_cmp k) old mid None → Updates string_cmp mid new k (Some g) → AreGrouped old qs → AreGrouped new (qs ++ (key (text_of k) ∷ rest) ∷ [])
 grouped_more old mid new k g rest qs e u v a =
@@ -59,12 +51,8 @@ grouped_more old mid new k g rest qs e u v a =
     let at_name : (s : String Global) → get string_cmp new s ≡ cond (is_eq (string_cmp k s)) (Some g) (cond (is_eq (string_cmp k s)) None (get string_cmp old s)) =
     λ s. v.0 s ∙ ap (cond (is_eq (string_cmp k s)) (Some g)) (u.0 s) in
     let group : locations_in g.items ≡ following (key t) qs ++ rest ∷ [] = e ∙ ap (λ ps. ps ++ rest ∷ []) (a.same k) in
-    let all : selectors_in (qs ++ (key t ∷ rest) ∷ []) ≡ selectors_in qs + selectors_in ((key t ∷ rest) ∷ []) = selectors-append qs ((key t ∷ rest) ∷ []) in
-    let one : selectors_in (locations_in g.items) ≡ selectors_in (following (key t) qs) + selectors_in (rest ∷ []) = ap selectors_in group ∙ selectors-append (following (key t) qs) (rest ∷ []) in
-    let least = steps_after (key t) qs in
     record {
       same = λ s. same_more (is_eq (string_cmp k s)) t (text_of s) g (get string_cmp old s) (get string_cmp new s) rest qs (same_names k s) (at_name s) group (a.same s);
-      fewer = λ s. fewer_more (is_eq (string_cmp k s)) g (get string_cmp old s) (get string_cmp new s) (selectors_in qs) (selectors_in (qs ++ (key t ∷ rest) ∷ [])) (at_name s) (omega arith) (omega arith) (a.fewer s);
     }
 
 -- the group that is there, or a new one
@@ -75,10 +63,8 @@ held_or_none (Some g) d e = refl
 -- a location in no member
 pub grouped_elsewhere : (groups : Groups) (qs : List Location) (q : Location) → ((t : List ℕ) → following (key t) (q ∷ []) ≡ []) → AreGrouped groups qs → AreGrouped groups (qs ++ q ∷ [])
 grouped_elsewhere groups qs q h a =
-    let all : selectors_in (qs ++ q ∷ []) ≡ selectors_in qs + selectors_in (q ∷ []) = selectors-append qs (q ∷ []) in
     record {
       same = λ s. a.same s ∙ sym (following-append (key (text_of s)) qs (q ∷ []) ∙ ap (λ ps. following (key (text_of s)) qs ++ ps) (h (text_of s)) ∙ append-nil (following (key (text_of s)) qs));
-      fewer = λ s. more_steps (get string_cmp groups s) (selectors_in qs) (selectors_in (qs ++ q ∷ [])) (omega arith) (a.fewer s);
     }
 
 -- what remains of members depends on the locations in each
@@ -86,9 +72,14 @@ pub members_same : (es : List (String Global × Val)) (ps qs : List Location) �
 members_same [] ps qs h = refl
 members_same (e ∷ es) ps qs h = rw (h e.0, members_same es ps qs h) refl
 
--- what remains of members without the locations in the groups, for any such locations
-abbrev pub GroupsLeave : Groups → Members → Members → Type 0
-GroupsLeave groups ms left = (qs : List Location) → ((s : String Global) → following (key (text_of s)) qs ≡ held_in (get string_cmp groups s)) → members_left qs ms ≡ left
+members_same_put : (es : List (String Global × Val)) (k : String Global) (v : Value) (ps qs : List Location) → ((s : String Global) → following (key (text_of s)) ps ≡ following (key (text_of s)) qs) → members_left ps (put (text_of k) v (members_view es)) ≡ members_left qs (put (text_of k) v (members_view es))
+members_same_put [] k v ps qs h = rw (h k) refl
+members_same_put (e ∷ es) k v ps qs h =
+    elim (compared (text_cmp (text_of k) (text_of e.0))) [
+      | is_less l ↦ rw (l, h k, h e.0, members_same es ps qs h) refl
+      | is_equal l ↦ rw (l, h e.0, members_same es ps qs h) refl
+      | is_greater l ↦ rw (l, h e.0, members_same_put es k v ps qs h) refl
+    ]
 
 following_after : (t u : List ℕ) (b : Bool) → is_eq (text_cmp u t) ≡ b → (ps : List Location) → following (key u) (after (key t) ps) ≡ (if b then ps else [])
 following_after t u true e [] = refl
@@ -112,21 +103,24 @@ others_at true t u o n all qs e f h i =
     i ∙ ap held_in f ∙ sym (ap (λ s. following (key s) (apart (key t) all)) same ∙ following-apart (key t) all)
 others_at false t u o n all qs e f h i = i ∙ ap held_in f ∙ sym h ∙ sym (following-apart_other u t all e)
 
--- one group less
-pub group_taken : (old new : Groups) (k : String Global) (g : Group) (ms left : Members) (es : List (String Global × Val)) → get string_cmp old k ≡ Some g → Updates string_cmp old new k None → GroupsLeave old ms left
-    → ((qs : List Location) → following (key (text_of k)) qs ≡ locations_in g.items → members_left (apart (key (text_of k)) qs) (members_view es) ≡ members_left qs ms) → GroupsLeave new (members_view es) left
-group_taken old new k g ms left es found u leave law = λ qs h.
+-- one group less, where the members depend on the locations in each alone
+group_taken_from : (old new : Groups) (k : String Global) (g : Group) (ms ns : Members) (w : Value) → get string_cmp old k ≡ Some g → Updates string_cmp old new k None → GroupsLeave old ms w
+    → ((ps qs : List Location) → ((s : String Global) → following (key (text_of s)) ps ≡ following (key (text_of s)) qs) → members_left ps ns ≡ members_left qs ns)
+    → ((qs : List Location) → following (key (text_of k)) qs ≡ locations_in g.items → members_left (apart (key (text_of k)) qs) ns ≡ members_left qs ms) → GroupsLeave new ns w
+group_taken_from old new k g ms ns w found u leave same law = λ qs h.
     let t = text_of k in
     let all = after (key t) (locations_in g.items) ++ qs in
     let whole : (s : String Global) → following (key (text_of s)) all ≡ held_in (get string_cmp old s) =
     λ s. whole_at (is_eq (string_cmp k s)) t (text_of s) g (get string_cmp old s) (get string_cmp new s) qs (same_names k s) (u.0 s) (λ e. found_same old k s (names_tied k s e) ∙ found) (h s) in
     let others : (s : String Global) → following (key (text_of s)) qs ≡ following (key (text_of s)) (apart (key t) all) =
     λ s. others_at (is_eq (string_cmp k s)) t (text_of s) (get string_cmp old s) (get string_cmp new s) all qs (same_names k s) (u.0 s) (whole s) (h s) in
-    members_same es qs (apart (key t) all) others ∙ law all (whole k ∙ ap held_in found) ∙ leave all whole
+    ap object (same qs (apart (key t) all) others ∙ law all (whole k ∙ ap held_in found)) ∙ leave all whole
 
-kept_by : (b : Bool) (o n : Option Group) (m : ℕ) → n ≡ cond b None o → IfSome o (λ g. selectors_in (locations_in g.items) < m) → IfSome n (λ g. selectors_in (locations_in g.items) < m)
-kept_by true o n m e h = rw e tt
-kept_by false o n m e h = rw e h
+pub group_taken : (old new : Groups) (k : String Global) (g : Group) (ms : Members) (w : Value) (es : List (String Global × Val)) → get string_cmp old k ≡ Some g → Updates string_cmp old new k None → GroupsLeave old ms w
+    → ((qs : List Location) → following (key (text_of k)) qs ≡ locations_in g.items → members_left (apart (key (text_of k)) qs) (members_view es) ≡ members_left qs ms) → GroupsLeave new (members_view es) w
+group_taken old new k g ms w es found u leave law = group_taken_from old new k g ms (members_view es) w found u leave (members_same es) law
 
-pub fewer_kept : (old new : Groups) (k : String Global) (m : ℕ) → Updates string_cmp old new k None → ((s : String Global) → IfSome (get string_cmp old s) (λ g. selectors_in (locations_in g.items) < m)) → (s : String Global) → IfSome (get string_cmp new s) (λ g. selectors_in (locations_in g.items) < m)
-fewer_kept old new k m u h s = kept_by (is_eq (string_cmp k s)) (get string_cmp old s) (get string_cmp new s) m (u.0 s) (h s)
+-- the same, where what is left of the member is put back
+pub group_put : (old new : Groups) (k : String Global) (g : Group) (ms : Members) (w v : Value) (es : List (String Global × Val)) → get string_cmp old k ≡ Some g → Updates string_cmp old new k None → GroupsLeave old ms w
+    → ((qs : List Location) → following (key (text_of k)) qs ≡ locations_in g.items → members_left (apart (key (text_of k)) qs) (put (text_of k) v (members_view es)) ≡ members_left qs ms) → GroupsLeave new (put (text_of k) v (members_view es)) w
+group_put old new k g ms w v es found u leave law = group_taken_from old new k g ms (put (text_of k) v (members_view es)) w found u leave (members_same_put es k v) law

@@ -1,16 +1,16 @@
 -- The items that locations are grouped by, with one more location.
 use Rattle.std.proofs.Common.{◌≡◌, ◌∙◌, ◌+◌, ◌<◌, ◌≤◌, ℕ, zero, suc, List, [], ◌∷◌, ◌++◌, length, true, false, ap, sym, refl, ◌==◌, get_or, slice_set, arith}
 use Rattle.std.proofs.lemmas.Bool.Decides.{nat_tests}
-use Rattle.std.proofs.lemmas.List.{append-nil, length-map, map-append, map-set}
+use Rattle.std.proofs.lemmas.List.{append-nil, length-map, map-set}
 use Rattle.std.proofs.Math.ListN.{get_or-map}
 use Rattle.jv_meaning.specs.Value.{Value}
 use Rattle.jv_data.specs.View.{view}
-use Rattle.jv_value.specs.private.ItemGroups.{grouped_from, groups_in, groups_left}
+use Rattle.jv_value.specs.private.ItemGroups.{grouped_from, groups_in}
 use Rattle.jv_value.specs.DeletePaths.{following}
 use Rattle.jv_value.specs.Locations.{at, key, Location}
 use Rattle.jv_value.specs.private.Locations.{locations_in}
 use Rattle.jv_value.specs.declared.removing.ItemGroup.{ItemGroup}
-use Rattle.jv_value.proofs.Following.{groups_left-append, following-append, without_nothing}
+use Rattle.jv_value.proofs.Following.{following-append}
 
 -- a location that is in none of the items
 pub grouped_elsewhere : (qs : List Location) (q : Location) (i : ℕ) (vs : List Value) → ((j : ℕ) → j < length vs → following (at (i + j)) (q ∷ []) ≡ []) → grouped_from (qs ++ q ∷ []) i vs ≡ grouped_from qs i vs
@@ -76,11 +76,3 @@ grouped_pushed xs qs vs i t u q h read item locations e =
 pub grouped_nothing : (i : ℕ) (vs : List Value) (v : Value) → grouped_from [] i (vs ++ v ∷ []) ≡ grouped_from [] i vs ++ (v, []) ∷ []
 grouped_nothing i [] v = refl
 grouped_nothing i (w ∷ vs) v = ap (λ xs. (w, []) ∷ xs) (grouped_nothing (i + 1) vs v)
-
--- what remains with one more item
-pub left_more : (ys : List ItemGroup) (x : ItemGroup) → groups_left (groups_in (ys ++ x ∷ [])) ≡ groups_left (groups_in ys) ++ groups_left ((view x.item, locations_in x.locations.items) ∷ [])
-left_more ys x = ap groups_left (map-append (λ a. (view a.item, locations_in a.locations.items)) ys (x ∷ [])) ∙ groups_left-append (groups_in ys) ((view x.item, locations_in x.locations.items) ∷ [])
-
-pub left_last : (ys : List ItemGroup) (x : ItemGroup) → x.locations.items ≡ [] → groups_left (groups_in (ys ++ x ∷ [])) ≡ groups_left (groups_in ys) ++ view x.item ∷ []
-left_last ys x e =
-    left_more ys x ∙ ap (λ ps. groups_left (groups_in ys) ++ groups_left ((view x.item, locations_in ps) ∷ [])) e ∙ ap (λ v. groups_left (groups_in ys) ++ v ∷ []) (without_nothing (view x.item))

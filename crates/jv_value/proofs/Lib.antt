@@ -5,6 +5,7 @@ pub mod Answered
 pub mod Filled
 pub mod Taken
 pub mod Finds
+pub mod Strides
 pub mod Following
 pub mod Ascending
 pub mod ItemGroups
@@ -15,3 +16,5 @@ pub mod DeleteLaws
 pub mod Texts
 pub mod Grouped
 pub mod AtOnce
+pub mod Frames
+pub mod Removals

@@ -9,7 +9,8 @@ ghost use Rattle.jv_meaning.specs.Value.{Items, array, items_of, number, object,
 ghost use Rattle.jv_meaning.specs.Text.{text_of};
 ghost use Rattle.jv_data.specs.View.{view};
 ghost use Rattle.jv_value.specs.ErrorTexts.{cannot_index, key_name};
-ghost use Rattle.jv_value.specs.private.FoundLocations.{FailsToFind, FindsLocations};
+ghost use Rattle.jv_value.specs.private.FoundLocations.{FindsLocations};
+ghost use Rattle.jv_value.specs.private.Steps.{LeadsOn, TakesStep, before, before_all, place_view, stride, stride_of};
 ghost use Rattle.jv_value.specs.Locations.{after, at, locations_of, unsliced};
 ghost use Rattle.jv_value.specs.private.Locations.{location_in, locations_in, selector_of};
 
@@ -20,19 +21,65 @@ use crate::slicing::char_count;
 use jv_data::{Array, Fail, Object, SharedText, Val};
 use std::alloc::{AllocError, Global};
 
+// What a path has led to: a value, or the array of some items.
+#[derive(Clone, Copy)]
+pub enum Place<'a> {
+    Value(&'a Val),
+    Items(&'a [Val]),
+}
+
+// What a key of a path leads through.
+#[derive(Drop)]
+pub enum Step {
+    Child(Child),
+    // A slice from one index to another.
+    Slice(usize, usize),
+}
+
 // The locations that a path names, key by key. No part of the value is copied.
-#[cycle(finding)]
 pub(crate) fn locations_of(alloc: Global, value: &Val, path: &[Val]) -> Result<Vec<Location>, Fail>
     ensures { FindsLocations result (locations_of (view value.now) (map view path.now)) }
 {
-    let Some((key, rest)) = path.split_first() else {
-        return Ok(itself(alloc)?);
-    };
+    let mut steps = Vec::new(alloc);
+    let mut place = Place::Value(value);
+    for key in path {
+        match next_step(alloc, place, key)? {
+            None => return Ok(Vec::new(alloc)),
+            Some((step, part)) => {
+                steps.push(step)?;
+                place = part;
+            }
+        }
+    }
+    Ok(after_steps(alloc, steps, itself(alloc)?)?)
+}
+
+// Where a key leads, or `None` if it names no locations.
+fn next_step<'a>(
+    alloc: Global,
+    place: Place<'a>,
+    key: &Val,
+) -> Result<Option<(Step, Place<'a>)>, Fail>
+    ensures { TakesStep (place_view place.entry) (view key.now) result }
+{
+    match place {
+        Place::Value(value) => step_in_value(alloc, value, key),
+        Place::Items(items) => step_in_items(alloc, items, key),
+    }
+}
+
+fn step_in_value<'a>(
+    alloc: Global,
+    value: &'a Val,
+    key: &Val,
+) -> Result<Option<(Step, Place<'a>)>, Fail>
+    ensures { TakesStep (view value.now) (view key.now) result }
+{
     match (value, key) {
-        (Val::Null, _) => Ok(Vec::new(alloc)),
-        (Val::Table(members), Val::Text(name)) => in_member(alloc, members, name, rest),
-        (Val::List(items), Val::Num(place)) => in_item(alloc, items.as_slice(), place, rest),
-        (Val::List(items), Val::Table(bounds)) => in_slice(alloc, items.as_slice(), bounds, rest),
+        (Val::Null, _) => Ok(None),
+        (Val::Table(members), Val::Text(name)) => step_to_member(members, name),
+        (Val::List(items), Val::Num(place)) => Ok(step_to_item(items.as_slice(), place)),
+        (Val::List(items), Val::Table(bounds)) => step_to_slice(alloc, items.as_slice(), bounds),
         (Val::Text(text), Val::Table(bounds)) => {
             Err(refuse_text(alloc, value, text.as_str(), bounds))
         }
@@ -40,18 +87,89 @@ pub(crate) fn locations_of(alloc: Global, value: &Val, path: &[Val]) -> Result<V
     }
 }
 
-// The locations in an array of these items.
-#[cycle(finding)]
-fn among_items(alloc: Global, items: &[Val], path: &[Val]) -> Result<Vec<Location>, Fail>
-    ensures { FindsLocations result (locations_of (array (items_of (map view items.now))) (map view path.now)) }
+fn step_in_items<'a>(
+    alloc: Global,
+    items: &'a [Val],
+    key: &Val,
+) -> Result<Option<(Step, Place<'a>)>, Fail>
+    ensures { TakesStep (array (items_of (map view items.now))) (view key.now) result }
 {
-    let Some((key, rest)) = path.split_first() else {
-        return Ok(itself(alloc)?);
-    };
     match key {
-        Val::Num(place) => in_item(alloc, items, place, rest),
-        Val::Table(bounds) => in_slice(alloc, items, bounds, rest),
+        Val::Num(place) => Ok(step_to_item(items, place)),
+        Val::Table(bounds) => step_to_slice(alloc, items, bounds),
         _ => Err(refuse_key(alloc, key)),
+    }
+}
+
+fn step_to_member<'a>(
+    members: &'a Object<Val>,
+    name: &SharedText,
+) -> Result<Option<(Step, Place<'a>)>, Fail>
+    ensures { TakesStep (object (members_in members.now)) (string (text_of (string_in name.now))) result }
+{
+    match members.get(name.as_str()) {
+        None => Ok(None),
+        Some(part) => {
+            let child = Child::Member(name.share()?);
+            Ok(Some((Step::Child(child), Place::Value(part))))
+        }
+    }
+}
+
+fn step_to_item<'a>(items: &'a [Val], place: &i64) -> Option<(Step, Place<'a>)>
+    ensures { LeadsOn (array (items_of (map view items.now))) (number place.now) result }
+{
+    match position(items.len(), place) {
+        None => None,
+        Some(index) => {
+            let step = Step::Child(Child::Item(index));
+            Some((step, Place::Value(&items[index])))
+        }
+    }
+}
+
+fn step_to_slice<'a>(
+    alloc: Global,
+    items: &'a [Val],
+    bounds: &Object<Val>,
+) -> Result<Option<(Step, Place<'a>)>, Fail>
+    ensures { TakesStep (array (items_of (map view items.now))) (object (members_in bounds.now)) result }
+{
+    match range_in(items.len(), bounds) {
+        None => Err(not_slice_bounds(alloc)),
+        Some((from, to)) => {
+            let part = Place::Items(&items[from..to]);
+            Ok(Some((Step::Slice(from, to), part)))
+        }
+    }
+}
+
+// Locations in the last part, as locations in the whole value.
+fn after_steps(
+    alloc: Global,
+    steps: Vec<Step>,
+    locations: Vec<Location>,
+) -> Result<Vec<Location>, AllocError>
+    ensures { IfOk result (λ v. locations_in v.items ≡ before_all (map stride_of steps.items) (locations_in locations.items)) }
+{
+    let mut steps = steps;
+    let mut locations = locations;
+    while let Some(step) = steps.pop() {
+        locations = after_step(alloc, step, locations)?;
+    }
+    Ok(locations)
+}
+
+fn after_step(
+    alloc: Global,
+    step: Step,
+    locations: Vec<Location>,
+) -> Result<Vec<Location>, AllocError>
+    ensures { IfOk result (λ v. locations_in v.items ≡ before (stride_of step) (locations_in locations.items)) }
+{
+    match step {
+        Step::Child(child) => after(alloc, &child, locations),
+        Step::Slice(from, to) => unsliced(alloc, from, to, locations),
     }
 }
 
@@ -61,49 +179,6 @@ fn itself(alloc: Global) -> Result<Vec<Location>, AllocError>
     let mut locations = Vec::new(alloc);
     locations.push(Vec::new(alloc))?;
     Ok(locations)
-}
-
-#[cycle(finding)]
-fn in_member(
-    alloc: Global,
-    members: &Object<Val>,
-    name: &SharedText,
-    rest: &[Val],
-) -> Result<Vec<Location>, Fail>
-    ensures { FindsLocations result (locations_of (object (members_in members.now)) (string (text_of (string_in name.now)) ∷ map view rest.now)) }
-{
-    let Some(part) = members.get(name.as_str()) else {
-        return Ok(Vec::new(alloc));
-    };
-    let locations = locations_of(alloc, part, rest)?;
-    Ok(after(alloc, &Child::Member(name.share()?), locations)?)
-}
-
-#[cycle(finding)]
-fn in_item(alloc: Global, items: &[Val], place: &i64, rest: &[Val]) -> Result<Vec<Location>, Fail>
-    ensures { FindsLocations result (locations_of (array (items_of (map view items.now))) (number place.now ∷ map view rest.now)) }
-{
-    let Some(index) = position(items.len(), place) else {
-        return Ok(Vec::new(alloc));
-    };
-    let locations = locations_of(alloc, &items[index], rest)?;
-    Ok(after(alloc, &Child::Item(index), locations)?)
-}
-
-#[cycle(finding)]
-fn in_slice(
-    alloc: Global,
-    items: &[Val],
-    bounds: &Object<Val>,
-    rest: &[Val],
-) -> Result<Vec<Location>, Fail>
-    ensures { FindsLocations result (locations_of (array (items_of (map view items.now))) (object (members_in bounds.now) ∷ map view rest.now)) }
-{
-    let Some((from, to)) = range_in(items.len(), bounds) else {
-        return Err(not_slice_bounds(alloc));
-    };
-    let locations = among_items(alloc, &items[from..to], rest)?;
-    Ok(unsliced(alloc, from, to, locations)?)
 }
 
 // The error of a key that no array accepts.
@@ -119,7 +194,7 @@ fn refuse_key(alloc: Global, key: &Val) -> Fail
 // The error of a slice of a string.
 fn refuse_text(alloc: Global, value: &Val, text: &str, bounds: &Object<Val>) -> Fail
     requires { view value.now ≡ string (chars text.now) }
-    ensures { FailsToFind (string (chars text.now)) (object (members_in bounds.now)) result }
+    ensures { FailsAs result (stride (string (chars text.now)) (object (members_in bounds.now))) }
 {
     match range_in(char_count(text), bounds) {
         Some(_) => cannot_slice(alloc, value),

@@ -1,25 +1,37 @@
 // A value without the parts at some locations.
-ghost use Rattle.std.specs.Prelude.{◌≡◌, ◌++◌, ◌∷◌, [], IfOk, List, OnOk, if◌then◌else◌, map};
+ghost use Rattle.std.specs.Prelude.{◌≡◌, ◌++◌, ◌∷◌, [], IfOk, List, MatchOption, OnOk, map};
+ghost use Rattle.std.specs.Str.{chars};
 ghost use Rattle.jv_data.specs.Held.{members_in};
 ghost use Rattle.jv_meaning.specs.Members.{put};
-ghost use Rattle.jv_meaning.specs.Value.{Value, array, items_of, object};
-ghost use Rattle.jv_meaning.specs.Text.{text_of};
+ghost use Rattle.jv_meaning.specs.Value.{Value};
 ghost use Rattle.jv_data.specs.View.{view};
-ghost use Rattle.jv_value.specs.private.ItemGroups.{grouped_from, groups_in, groups_left, apart};
-ghost use Rattle.jv_value.specs.DeletePaths.{following, items_left, members_left, names_itself, removed, without_locations};
-ghost use Rattle.jv_value.specs.Locations.{Location, at, key};
+ghost use Rattle.jv_value.specs.private.ItemGroups.{grouped_from, groups_in};
+ghost use Rattle.jv_value.specs.private.Removals.{GoesOn, GroupsLeave, Leaves, LeavesMember, items_with};
+ghost use Rattle.jv_value.specs.DeletePaths.{names_itself, removed, without_locations};
+ghost use Rattle.jv_value.specs.Locations.{Location, at};
 ghost use Rattle.jv_value.specs.private.Locations.{location_in, locations_in};
 
 use crate::grouping::by_name;
 use crate::locations::{Child, Location};
 use jv_data::{Array, Object, Val};
 use std::alloc::{AllocError, Global};
+use std::collections::BTreeMap;
+use std::vec::IntoIter;
 
 // An item, and the locations in it that are deleted.
 #[derive(Drop)]
 pub struct ItemGroup {
     item: Val,
     locations: Vec<Location>,
+}
+
+// An array or an object while what is left of one of its parts is found.
+#[derive(Drop)]
+pub enum Open {
+    // The items that are left before the part, and the items after it.
+    Items(Vec<Val>, IntoIter<ItemGroup>),
+    // The other members, the locations in those that are not done, and the key of the part.
+    Members(Object<Val>, BTreeMap<String, Vec<Location>>, String),
 }
 
 pub(crate) fn removed(
@@ -49,46 +61,146 @@ fn names_itself(locations: &[Location]) -> bool
     false
 }
 
-#[cycle(removing)]
 fn without_locations(alloc: Global, value: Val, locations: Vec<Location>) -> Result<Val, AllocError>
     ensures { IfOk result (λ v. view v ≡ without_locations (locations_in locations.items) (view value)) }
 {
+    let mut opened = Vec::new(alloc);
+    let mut part = value;
+    let mut within = locations;
+    // (this many steps are never made, but show that the loop ends)
+    for _ in 0..u64::MAX {
+        if within.is_empty() {
+            match opened.pop() {
+                None => return Ok(part),
+                Some(container) => {
+                    let next = go_on(alloc, container, part, &mut opened)?;
+                    part = next.0;
+                    within = next.1;
+                    continue;
+                }
+            }
+        }
+        let next = go_in(alloc, part, within, &mut opened)?;
+        part = next.0;
+        within = next.1;
+    }
+    Err(AllocError)
+}
+
+// The first part to go into, and the locations in it; or the value without the locations, and no locations.
+fn go_in(
+    alloc: Global,
+    value: Val,
+    locations: Vec<Location>,
+    opened: &mut Vec<Open>,
+) -> Result<(Val, Vec<Location>), AllocError>
+    ensures { IfOk result (λ r. GoesOn opened.old.items (without_locations (locations_in locations.items) (view value)) opened.new.items r) }
+{
     match &value {
-        Val::List(_) => items_left(alloc, value.into_list().into_values()?, locations),
-        Val::Table(_) => members_left(alloc, value.into_table(), locations),
-        _ => Ok(value),
+        Val::List(_) => {
+            let items = value.into_list().into_values()?;
+            let left = Vec::with_capacity(alloc, items.len())?;
+            let groups = by_item(alloc, items, locations)?;
+            next_item(alloc, left, groups.into_iter(), opened)
+        }
+        Val::Table(_) => {
+            let groups = by_name(alloc, locations)?;
+            next_member(alloc, value.into_table(), groups, opened)
+        }
+        _ => Ok((value, Vec::new(alloc))),
     }
 }
 
-#[cycle(removing)]
-fn items_left(alloc: Global, items: Vec<Val>, locations: Vec<Location>) -> Result<Val, AllocError>
-    ensures { IfOk result (λ v. view v ≡ array (items_left (locations_in locations.items) 0 (items_of (map view items.items)))) }
+// The same after a part of the container, which takes its place again.
+fn go_on(
+    alloc: Global,
+    container: Open,
+    part: Val,
+    opened: &mut Vec<Open>,
+) -> Result<(Val, Vec<Location>), AllocError>
+    ensures { IfOk result (λ r. (w : Value) → Leaves container (view part) w → GoesOn opened.old.items w opened.new.items r) }
 {
-    let mut left = Vec::with_capacity(alloc, items.len())?;
-    for group in by_item(alloc, items, locations)? {
+    match container {
+        Open::Items(mut left, groups) => {
+            left.push(part)?;
+            next_item(alloc, left, groups, opened)
+        }
+        Open::Members(mut members, groups, name) => {
+            members.insert(name, part)?;
+            next_member(alloc, members, groups, opened)
+        }
+    }
+}
+
+fn next_item(
+    alloc: Global,
+    left: Vec<Val>,
+    groups: IntoIter<ItemGroup>,
+    opened: &mut Vec<Open>,
+) -> Result<(Val, Vec<Location>), AllocError>
+    ensures { IfOk result (λ r. GoesOn opened.old.items (items_with (map view left.items) groups.rest.items) opened.new.items r) }
+{
+    let mut left = left;
+    let mut groups = groups;
+    while let Some(group) = groups.next() {
         let ItemGroup { item, locations } = group;
         if locations.is_empty() {
             left.push(item)?;
-        } else {
-            push_left(alloc, &mut left, item, locations)?;
+        } else if !names_itself(locations.as_slice()) {
+            opened.push(Open::Items(left, groups))?;
+            return Ok((item, locations));
         }
     }
-    Ok(Val::List(Array::from_vec(alloc, left)?))
+    let items = Array::from_vec(alloc, left)?;
+    Ok((Val::List(items), Vec::new(alloc)))
 }
 
-#[cycle(removing)]
-fn push_left(
+fn next_member(
     alloc: Global,
-    left: &mut Vec<Val>,
-    item: Val,
-    locations: Vec<Location>,
-) -> Result<(), AllocError>
-    ensures { OnOk result (map view left.new.items ≡ map view left.old.items ++ groups_left ((view item, locations_in locations.items) ∷ [])) }
+    members: Object<Val>,
+    groups: BTreeMap<String, Vec<Location>>,
+    opened: &mut Vec<Open>,
+) -> Result<(Val, Vec<Location>), AllocError>
+    ensures { IfOk result (λ r. (w : Value) → GroupsLeave groups (members_in members) w → GoesOn opened.old.items w opened.new.items r) }
 {
-    if !names_itself(locations.as_slice()) {
-        left.push(without_locations(alloc, item, locations)?)?;
+    let mut members = members;
+    let mut groups = groups;
+    while let Some((name, locations)) = groups.pop_first() {
+        match taken_out(&mut members, name.as_str(), locations.as_slice())? {
+            None => {}
+            Some(part) => {
+                opened.push(Open::Members(members, groups, name))?;
+                return Ok((part, locations));
+            }
+        }
     }
-    Ok(())
+    Ok((Val::Table(members), Vec::new(alloc)))
+}
+
+// Takes a member out of an object. `None` if nothing is left of it.
+fn taken_out(
+    members: &mut Object<Val>,
+    name: &str,
+    locations: &[Location],
+) -> Result<Option<Val>, AllocError>
+    ensures { IfOk result (λ o. MatchOption o
+        (LeavesMember (chars name.now) (locations_in locations.now) (members_in members.old) (members_in members.new))
+        (λ part. LeavesMember (chars name.now) (locations_in locations.now) (members_in members.old)
+        (put (chars name.now) (without_locations (locations_in locations.now) (view part)) (members_in members.new)))) }
+{
+    // The proof needs the clause of `len` that the keys are in order.
+    if members.len() == 0 {
+        return Ok(None);
+    }
+    match members.remove(name)? {
+        None => Ok(None),
+        Some(part) => {
+            if names_itself(locations) {
+                return Ok(None);
+            }
+            Ok(Some(part))
+        }
+    }
 }
 
 // Each item with the locations in it.
@@ -136,61 +248,4 @@ fn add_to_item(groups: &mut Vec<ItemGroup>, index: usize, rest: Location) -> Res
         target.locations.push(rest)?;
     }
     Ok(())
-}
-
-#[cycle(removing)]
-fn members_left(
-    alloc: Global,
-    members: Object<Val>,
-    locations: Vec<Location>,
-) -> Result<Val, AllocError>
-    ensures { IfOk result (λ v. view v ≡ object (members_left (locations_in locations.items) (members_in members))) }
-{
-    let mut members = members;
-    let mut groups = by_name(alloc, locations)?;
-    while let Some((name, within)) = groups.pop_first() {
-        members = member_left(alloc, members, name, within)?;
-    }
-    Ok(Val::Table(members))
-}
-
-// The members without the locations in one of them.
-#[cycle(removing)]
-fn member_left(
-    alloc: Global,
-    members: Object<Val>,
-    name: String,
-    locations: Vec<Location>,
-) -> Result<Object<Val>, AllocError>
-    ensures { IfOk result (λ o. (qs : List Location) → following (key (text_of name)) qs ≡ locations_in locations.items
-        → members_left (apart (key (text_of name)) qs) (members_in o) ≡ members_left qs (members_in members)) }
-{
-    let mut members = members;
-    // The proof needs the clause of `len` that the keys are in order.
-    if members.len() == 0 {
-        return Ok(members);
-    }
-    match members.remove(name.as_str())? {
-        Some(part) => put_left(alloc, members, name, part, locations),
-        None => Ok(members),
-    }
-}
-
-#[cycle(removing)]
-fn put_left(
-    alloc: Global,
-    members: Object<Val>,
-    name: String,
-    part: Val,
-    locations: Vec<Location>,
-) -> Result<Object<Val>, AllocError>
-    ensures { IfOk result (λ o. members_in o ≡ (if names_itself (locations_in locations.items) then members_in members
-        else put (text_of name) (without_locations (locations_in locations.items) (view part)) (members_in members))) }
-{
-    let mut members = members;
-    if !names_itself(locations.as_slice()) {
-        let part = without_locations(alloc, part, locations)?;
-        members.insert(name, part)?;
-    }
-    Ok(members)
 }

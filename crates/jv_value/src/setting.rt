@@ -7,7 +7,7 @@ ghost use Rattle.jv_meaning.specs.Members.{put};
 ghost use Rattle.jv_meaning.specs.Value.{Value, array, items_of, null, number, object, string};
 ghost use Rattle.jv_meaning.specs.Text.{text_of};
 ghost use Rattle.jv_data.specs.View.{view};
-ghost use Rattle.jv_value.specs.private.Frames.{TakesPart, put_into};
+ghost use Rattle.jv_value.specs.private.Frames.{TakesPart, put_into, put_into_all};
 ghost use Rattle.jv_value.specs.Index.{item_at, slice_key};
 ghost use Rattle.jv_value.specs.SetPath.{filled, part_at, put_between, put_item, setpath_of};
 
@@ -41,12 +41,26 @@ pub enum Frame {
 pub fn setpath(alloc: Global, value: Val, path: &[Val], new: Val) -> Result<Val, Fail>
     ensures { AnswersAs result (setpath_of (view value) (map view path.now) (view new)) }
 {
-    let Some((key, rest)) = path.split_first() else {
-        return Ok(new);
-    };
-    let (part, frame) = take_part(alloc, value, key)?;
-    let changed = setpath(alloc, part, rest, new)?;
-    put_back(alloc, frame, changed)
+    let mut part = value;
+    let mut frames = Vec::new(alloc);
+    for key in path {
+        let (inner, frame) = take_part(alloc, part, key)?;
+        frames.push(frame)?;
+        part = inner;
+    }
+    put_all_back(alloc, frames, new)
+}
+
+// The frames' parts put back, from the last frame to the first.
+fn put_all_back(alloc: Global, frames: Vec<Frame>, part: Val) -> Result<Val, Fail>
+    ensures { AnswersAs result (put_into_all frames.items (view part)) }
+{
+    let mut frames = frames;
+    let mut part = part;
+    while let Some(frame) = frames.pop() {
+        part = put_back(alloc, frame, part)?;
+    }
+    Ok(part)
 }
 
 fn take_part(alloc: Global, value: Val, key: &Val) -> Result<(Val, Frame), Fail>

@@ -1,10 +1,11 @@
 -- A value whose part at a key was taken out.
-use Rattle.std.specs.Prelude.{◌≡◌, map, Result, Ok, Err}
+use Rattle.std.specs.Prelude.{◌≡◌, ◌∷◌, [], List, map, Result, Ok, Err}
 use Rattle.jv_data.specs.Held.{members_in}
 use Rattle.jv_meaning.specs.Members.{put}
 use Rattle.jv_meaning.specs.Value.{Value, object}
 use Rattle.jv_meaning.specs.Text.{text_of}
 use Rattle.jv_data.specs.View.{view}
+use Rattle.jv_value.specs.Results.{and_then}
 use Rattle.jv_value.specs.SetPath.{part_at, put_at, put_between, put_item}
 use Rattle.jv_value.specs.declared.setting.Frame.{Frame}
 use Rattle.jv_value.specs.declared.setting.Frame.TheVariants.{Member, Item, Slice, Sealed}
@@ -15,6 +16,11 @@ put_into (Member others name) p = Ok (object (put (text_of name) p (members_in o
 put_into (Item items place) p = put_item place p (map view items.items)
 put_into (Slice front back) p = put_between (map view front.items) p (map view back.items)
 put_into (Sealed error) p = Err (view error)
+
+-- the value with p as the part of several, each of which is the part of the one before it
+abbrev pub put_into_all : List Frame → Value → Result Value Value
+put_into_all [] p = Ok p
+put_into_all (f ∷ fs) p = and_then (put_into_all fs p) (put_into f)
 
 -- the part at a key that the rest of a path applies to, and the frame that puts another part there
 pub record TakesPart (v k part : Value) (frame : Frame) : Type 0 where

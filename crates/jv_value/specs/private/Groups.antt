@@ -1,5 +1,5 @@
 -- Locations in the members of an object, by the name of the member.
-use Rattle.std.specs.Prelude.{◌≡◌, ◌<◌, List, [], IfSome, Option, String, Vec}
+use Rattle.std.specs.Prelude.{◌≡◌, List, [], Option, String, Vec}
 use Rattle.std.specs.BTreeMap.{BTreeMap, get}
 use Rattle.std.specs.Option.{option_map_or}
 use Rattle.std.specs.String.{string_cmp}
@@ -7,7 +7,6 @@ use Rattle.std.specs.declared.alloc.Global.{Global}
 use Rattle.jv_meaning.specs.Text.{text_of}
 use Rattle.jv_value.specs.DeletePaths.{following}
 use Rattle.jv_value.specs.Locations.{key, Location}
-use Rattle.jv_value.specs.private.Selectors.{selectors_in}
 use Rattle.jv_value.specs.private.Locations.{locations_in}
 use Rattle.jv_value.specs.declared.locations.Child.{Child}
 
@@ -21,7 +20,6 @@ Groups = BTreeMap (String Global) Group
 abbrev pub held_in : Option Group → List Location
 held_in o = option_map_or (λ g. locations_in g.items) o []
 
--- The groups have the locations in each member, relative to the member, so each group has fewer selectors than all locations together.
+-- The groups have the locations in each member, relative to the member.
 pub record AreGrouped (groups : Groups) (qs : List Location) : Type 0 where
   pub same : (s : String Global) → held_in (get string_cmp groups s) ≡ following (key (text_of s)) qs
-  pub fewer : (s : String Global) → IfSome (get string_cmp groups s) (λ g. selectors_in (locations_in g.items) < selectors_in qs)
