@@ -1,6 +1,8 @@
-// Values of 100,000 levels: neither their order nor their text nor their drop takes a part of the stack for each level.
+// Values of 100,000 levels: neither their order nor their text nor their drop nor a change of a part takes a part of the stack
+// for each level.
 use jv_data::{Array, Object, Val, order, same};
 use jv_text::to_compact_string;
+use jv_value::{delpaths, getpath, setpath};
 use std::alloc::{AllocError, Global};
 use std::cmp::Ordering;
 use std::process::Abort;
@@ -62,4 +64,57 @@ fn objects_of_many_levels(rt: HostRuntime) -> Result<(), Fail> {
     let value = objects(rt.alloc(), 1)?;
     let greater = objects(rt.alloc(), 2)?;
     check(&rt, &value, &greater, 6 * LEVELS + 1)
+}
+
+// The path to the innermost number.
+fn path_of(alloc: Global, key: &Val) -> Result<Vec<Val>, AllocError> {
+    let mut path = Vec::with_capacity(alloc, LEVELS)?;
+    for _ in 0..LEVELS {
+        path.push(key.clone()?)?;
+    }
+    Ok(path)
+}
+
+// The value with 2 in place of the innermost number, and the value without that.
+fn change(
+    rt: &(impl Abort + AllocGlobal),
+    value: Val,
+    greater: &Val,
+    key: &Val,
+) -> Result<Val, Fail> {
+    let alloc = rt.alloc();
+    let path = path_of(alloc, key)?;
+    let Ok(set) = setpath(alloc, value, path.as_slice(), Val::Num(2)) else {
+        return Err("no value is set")?;
+    };
+    assert!(rt; same(&set, greater));
+    let Ok(part) = getpath(alloc, &set, path.as_slice()) else {
+        return Err("no part is found")?;
+    };
+    assert!(rt; same(&part, &Val::Num(2)));
+    let mut paths = Vec::with_capacity(alloc, 1)?;
+    paths.push(path)?;
+    match delpaths(alloc, set, paths) {
+        Ok(left) => Ok(left),
+        Err(_) => Err("no part is deleted")?,
+    }
+}
+
+#[test]
+fn items_of_many_levels(rt: HostRuntime) -> Result<(), Fail> {
+    let alloc = rt.alloc();
+    let greater = arrays(alloc, 2)?;
+    let left = change(&rt, arrays(alloc, 1)?, &greater, &Val::Num(0))?;
+    assert_eq!(rt; to_compact_string(alloc, &left)?.len(), 2 * LEVELS);
+    Ok(())
+}
+
+#[test]
+fn members_of_many_levels(rt: HostRuntime) -> Result<(), Fail> {
+    let alloc = rt.alloc();
+    let greater = objects(alloc, 2)?;
+    let name = Val::from_text(alloc, "a")?;
+    let left = change(&rt, objects(alloc, 1)?, &greater, &name)?;
+    assert_eq!(rt; to_compact_string(alloc, &left)?.len(), 6 * LEVELS - 4);
+    Ok(())
 }
