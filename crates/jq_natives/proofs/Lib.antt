@@ -14,3 +14,4 @@ pub mod Opened
 pub mod ListPlaces
 pub mod Failures
 pub mod NativeNames
+pub mod Searched

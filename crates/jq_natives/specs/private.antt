@@ -1,3 +1,4 @@
 -- What only contracts of private functions cite.
 pub mod SortedItems
 pub mod Lists
+pub mod Searches

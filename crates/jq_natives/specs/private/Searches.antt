@@ -1,0 +1,28 @@
+-- What a search in a container finds.
+use Rattle.std.specs.Prelude.{Bool, ◌&&◌, ◌||◌}
+use Rattle.std.specs.List.{list_any}
+use Rattle.jv_data.specs.Held.{members_in}
+use Rattle.jv_data.specs.View.{items_view, members_view, view}
+use Rattle.jv_meaning.specs.Value.{values_of}
+use Rattle.jq_natives.specs.Containment.{contained_in, items_contained, members_contained}
+use Rattle.jq_natives.specs.declared.containment.Search.{Search}
+use Rattle.jq_natives.specs.declared.containment.Search.TheVariants.{Items, Item, Members}
+use Rattle.jq_natives.specs.declared.containment.Step.{Step}
+use Rattle.jq_natives.specs.declared.containment.Step.TheVariants.{Answer, Next, Deeper}
+
+-- the answer of a search
+abbrev pub found_by : Search → Bool
+found_by (Items parts wholes) = items_contained (items_view parts.now) (items_view wholes.now)
+found_by (Item part untried parts wholes) = list_any (contained_in (view part.now)) (values_of (items_view untried.now)) && items_contained (items_view parts.now) (items_view wholes.now)
+found_by (Members parts wholes) = members_contained (members_view parts) (members_in wholes.now)
+
+-- the answer of a search after the answer for a part that it waits for
+abbrev pub after : Search → Bool → Bool
+after (Items parts wholes) b = b && items_contained (items_view parts.now) (items_view wholes.now)
+after (Item part untried parts wholes) b = (b || list_any (contained_in (view part.now)) (values_of (items_view untried.now))) && items_contained (items_view parts.now) (items_view wholes.now)
+after (Members parts wholes) b = b && members_contained (members_view parts) (members_in wholes.now)
+
+abbrev pub leads_to : Step → Bool
+leads_to (Answer b) = b
+leads_to (Next search) = found_by search
+leads_to (Deeper inner outer) = after outer (found_by inner)
