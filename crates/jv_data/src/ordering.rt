@@ -10,18 +10,62 @@ use crate::pairs::{Pair, order_in_list, pair_of};
 use crate::{Object, Val};
 use std::cmp::Ordering;
 
+// How many levels are compared by recursion, which is faster than a list of what is open.
+const NEAR: usize = 100;
+
 /// The order of values (manual of jq 1.7, "sort, sort_by(path_expression)"): `null`, `false`, `true`, numbers, strings by their code points, arrays
 /// item by item, objects by their sorted keys and then value by value.
-#[cycle(ordering)]
 pub fn order(left: &Val, right: &Val) -> Ordering
     ensures { result ≡ compare (view left.now) (view right.now) }
 {
-    match pair_of(left, right) {
-        Err(ordering) => ordering,
-        Ok(pair) => match in_list(left, pair) {
+    order_near(left, right, NEAR)
+}
+
+// This many levels by recursion, and what is deeper by a list of what is open. Where the list cannot grow, one more level
+// goes by recursion, which takes no memory.
+#[cycle(ordering)]
+fn order_near(left: &Val, right: &Val, levels: usize) -> Ordering
+    ensures { result ≡ compare (view left.now) (view right.now) }
+{
+    match (left, right) {
+        (Val::Bool(x), Val::Bool(y)) => x.cmp(y),
+        (Val::Num(x), Val::Num(y)) => x.cmp(y),
+        (Val::Text(x), Val::Text(y)) => x.as_str().cmp(y.as_str()),
+        (Val::List(xs), Val::List(ys)) => match order_far(left, right, levels) {
             Some(ordering) => ordering,
-            None => order_by_parts(left, right),
+            None => order_items(xs.as_slice(), ys.as_slice(), levels.saturating_sub(1)),
         },
+        (Val::Table(xs), Val::Table(ys)) => match order_far(left, right, levels) {
+            Some(ordering) => ordering,
+            None => match order_keys(xs, ys) {
+                Ordering::Equal => order_members(xs, ys, levels.saturating_sub(1)),
+                unequal => unequal,
+            },
+        },
+        _ => rank(left).cmp(&rank(right)),
+    }
+}
+
+// The order by a list of what is open, if no levels are left and the list can grow.
+#[inline(always)]
+fn order_far(left: &Val, right: &Val, levels: usize) -> Option<Ordering>
+    ensures { IfSome result (λ o. o ≡ compare (view left.now) (view right.now)) }
+{
+    if levels == 0 {
+        order_open(left, right)
+    } else {
+        None
+    }
+}
+
+// `None` if the list could not grow.
+#[inline(never)]
+fn order_open(left: &Val, right: &Val) -> Option<Ordering>
+    ensures { IfSome result (λ o. o ≡ compare (view left.now) (view right.now)) }
+{
+    match pair_of(left, right) {
+        Err(ordering) => Some(ordering),
+        Ok(pair) => in_list(left, pair),
     }
 }
 
@@ -36,24 +80,6 @@ fn in_list(left: &Val, pair: Pair<'_>) -> Option<Ordering>
             None => None,
         },
         _ => None,
-    }
-}
-
-// The same by recursion, which takes no memory.
-#[cycle(ordering)]
-fn order_by_parts(left: &Val, right: &Val) -> Ordering
-    ensures { result ≡ compare (view left.now) (view right.now) }
-{
-    match (left, right) {
-        (Val::Bool(x), Val::Bool(y)) => x.cmp(y),
-        (Val::Num(x), Val::Num(y)) => x.cmp(y),
-        (Val::Text(x), Val::Text(y)) => x.as_str().cmp(y.as_str()),
-        (Val::List(xs), Val::List(ys)) => order_items(xs.as_slice(), ys.as_slice()),
-        (Val::Table(xs), Val::Table(ys)) => match order_keys(xs, ys) {
-            Ordering::Equal => order_members(xs, ys),
-            unequal => unequal,
-        },
-        _ => rank(left).cmp(&rank(right)),
     }
 }
 
@@ -79,14 +105,14 @@ pub(crate) fn rank(value: &Val) -> u8
 
 // Item by item; a prefix comes first.
 #[cycle(ordering)]
-fn order_items(left: &[Val], right: &[Val]) -> Ordering
+fn order_items(left: &[Val], right: &[Val], levels: usize) -> Ordering
     ensures { result ≡ compare_items (items_view left.now) (items_view right.now) }
 {
     let mut others = right.iter();
     for item in left {
         match others.next() {
             None => return Ordering::Greater,
-            Some(other) => match order(item, other) {
+            Some(other) => match order_near(item, other, levels) {
                 Ordering::Equal => {}
                 unequal => return unequal,
             },
@@ -120,14 +146,14 @@ pub(crate) fn order_keys(left: &Object<Val>, right: &Object<Val>) -> Ordering
 
 // Value by value, for objects with the same keys.
 #[cycle(ordering)]
-fn order_members(left: &Object<Val>, right: &Object<Val>) -> Ordering
+fn order_members(left: &Object<Val>, right: &Object<Val>, levels: usize) -> Ordering
     ensures { result ≡ compare_members (members_in left.now) (members_in right.now) }
 {
     let mut others = right.iter();
     for (_, member) in left.iter() {
         match others.next() {
             None => return Ordering::Equal,
-            Some((_, other)) => match order(member, other) {
+            Some((_, other)) => match order_near(member, other, levels) {
                 Ordering::Equal => {}
                 unequal => return unequal,
             },

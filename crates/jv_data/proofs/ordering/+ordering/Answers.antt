@@ -17,17 +17,17 @@ text_view t = search (rules, the_lemmas)
 table_view : (o : Object Val) → view (val.Table o) ≡ object (members_view (entries_in o))
 table_view o = search (rules, the_lemmas)
 
-pub order_by_parts-returns-in-Text-Text : goal.order_by_parts-returns-in-Text-Text
-order_by_parts-returns-in-Text-Text t c =
+pub order_near-returns-in-Text-Text : goal.order_near-returns-in-Text-Text
+order_near-returns-in-Text-Text t c =
     rw (c.in-Text-Text.is-0, c.in-Text-Text.is-1, text_view c.in-Text-Text.x, text_view c.in-Text-Text.y)
     ((rw (c.as_str.ensures, c.as_str-in-Text-Text.ensures) at c.cmp-in-Text-Text.ensures) ∙ chars-cmp (string_in c.in-Text-Text.x) (string_in c.in-Text-Text.y))
 
-pub order_by_parts-returns-in-Equal : goal.order_by_parts-returns-in-Equal
-order_by_parts-returns-in-Equal t c =
+pub order_near-returns-in-Equal : goal.order_near-returns-in-Equal
+order_near-returns-in-Equal t c =
     rw (c.in-Table-Table.is-0, c.in-Table-Table.is-1, table_view c.in-Table-Table.xs, table_view c.in-Table-Table.ys, ← c.order_keys.ensures, c.in-Equal.is)
     c.order_members.ensures
 
-pub order_by_parts-returns-in_default-order_keys : goal.order_by_parts-returns-in_default-order_keys
-order_by_parts-returns-in_default-order_keys t c =
+pub order_near-returns-in_default-order_keys : goal.order_near-returns-in_default-order_keys
+order_near-returns-in_default-order_keys t c =
     rw (c.in-Table-Table.is-0, c.in-Table-Table.is-1, table_view c.in-Table-Table.xs, table_view c.in-Table-Table.ys, ← c.order_keys.ensures)
     (first_decides c.order_keys.result _ c.in_default-order_keys.not-Equal)
