@@ -36,7 +36,7 @@ impl Val {
 pub(crate) fn items_may_be_deep(items: &Array<Val>) -> bool {
     match items.if_only() {
         None => false,
-        Some(items) => may_be_deep(items.as_slice(), NEAR),
+        Some(items) => arrays_may_be_deep(items.as_slice(), NEAR),
     }
 }
 
@@ -44,6 +44,30 @@ pub(crate) fn members_may_be_deep(members: &Object<Val>) -> bool {
     match members.if_only() {
         None => false,
         Some(members) => may_lead_deep(members, NEAR),
+    }
+}
+
+// Whether arrays alone may have more than this many levels below these items. An object among them looks itself how deep its
+// members are when it is dropped, so its members are not looked at twice.
+#[cycle(arrays)]
+fn arrays_may_be_deep(items: &[Val], levels: usize) -> bool {
+    for item in items {
+        if array_leads_deep(item, levels) {
+            return true;
+        }
+    }
+    false
+}
+
+#[cycle(arrays)]
+#[inline(always)]
+fn array_leads_deep(value: &Val, levels: usize) -> bool {
+    match value {
+        Val::List(items) => match items.if_only() {
+            Some(items) if levels != 0 => arrays_may_be_deep(items.as_slice(), levels - 1),
+            _ => true,
+        },
+        _ => false,
     }
 }
 
