@@ -31,36 +31,31 @@ fn order_near(left: &Val, right: &Val, levels: usize) -> Ordering
         (Val::Bool(x), Val::Bool(y)) => x.cmp(y),
         (Val::Num(x), Val::Num(y)) => x.cmp(y),
         (Val::Text(x), Val::Text(y)) => x.as_str().cmp(y.as_str()),
-        (Val::List(xs), Val::List(ys)) => match order_far(left, right, levels) {
-            Some(ordering) => ordering,
-            None => order_items(xs.as_slice(), ys.as_slice(), levels.saturating_sub(1)),
-        },
-        (Val::Table(xs), Val::Table(ys)) => match order_far(left, right, levels) {
-            Some(ordering) => ordering,
-            None => match order_keys(xs, ys) {
+        (Val::List(xs), Val::List(ys)) => {
+            if levels == 0 {
+                if let Some(ordering) = order_far(left, right) {
+                    return ordering;
+                }
+            }
+            order_items(xs.as_slice(), ys.as_slice(), levels.saturating_sub(1))
+        }
+        (Val::Table(xs), Val::Table(ys)) => {
+            if levels == 0 {
+                if let Some(ordering) = order_far(left, right) {
+                    return ordering;
+                }
+            }
+            match order_keys(xs, ys) {
                 Ordering::Equal => order_members(xs, ys, levels.saturating_sub(1)),
                 unequal => unequal,
-            },
-        },
+            }
+        }
         _ => rank(left).cmp(&rank(right)),
     }
 }
 
-// The order by a list of what is open, if no levels are left and the list can grow.
-#[inline(always)]
-fn order_far(left: &Val, right: &Val, levels: usize) -> Option<Ordering>
-    ensures { IfSome result (λ o. o ≡ compare (view left.now) (view right.now)) }
-{
-    if levels == 0 {
-        order_open(left, right)
-    } else {
-        None
-    }
-}
-
-// `None` if the list could not grow.
-#[inline(never)]
-fn order_open(left: &Val, right: &Val) -> Option<Ordering>
+// The order by a list of what is open, or `None` if the list could not grow.
+fn order_far(left: &Val, right: &Val) -> Option<Ordering>
     ensures { IfSome result (λ o. o ≡ compare (view left.now) (view right.now)) }
 {
     match pair_of(left, right) {
