@@ -2,6 +2,7 @@ pub mod Items
 pub mod Repeats
 pub mod Puts
 pub mod Unions
+pub mod Uniting
 pub mod Parts
 pub mod SplitLaws
 pub mod UnionLaws

@@ -7,6 +7,7 @@ use Rattle.jv_meaning.specs.Members.{member_at, member_or_null, put, IsBefore, I
 use Rattle.jv_meaning.specs.Value.{Value, null, Members, no_members, member, text_cmp}
 use Rattle.jv_arith.proofs.Puts.{put_swap}
 use Rattle.jv_arith.specs.Objects.{union, deep_union, united}
+use Rattle.jv_arith.specs.private.Uniting.{unite_all}
 
 -- ns put into ms from the first on
 abbrev pub put_all : Members → Members → Members
@@ -28,11 +29,6 @@ put_all-union ms (member k v ns) h = put_all-put k v ms ns h.0 ∙ ap (put k v) 
 abbrev united_with : Members → Members → Members
 united_with ms no_members = no_members
 united_with ms (member k v ns) = member k (united (member_or_null k ms) v) (united_with ms ns)
-
--- the same from the first on, each united with the value that is there by then
-abbrev pub unite_all : Members → Members → Members
-unite_all ms no_members = ms
-unite_all ms (member k v ns) = unite_all (put k (united (member_or_null k ms) v) ms) ns
 
 -- at the keys of ns the two have the same
 abbrev Agree : Members → Members → Members → Type 0

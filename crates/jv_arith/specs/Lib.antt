@@ -5,3 +5,4 @@ pub mod Objects
 pub mod Errors
 pub mod Arith
 pub mod laws
+pub mod private

@@ -1,14 +1,17 @@
 // Objects under `+` and `*`.
-ghost use Rattle.std.specs.Prelude.{◌≡◌, IfOk, OnOk};
+ghost use Rattle.std.specs.Prelude.{◌≡◌, IfOk, MatchOption, OnOk, String};
+ghost use Rattle.std.specs.declared.alloc.Global.{Global};
 ghost use Rattle.std.specs.Str.{chars};
 ghost use Rattle.jv_data.specs.Held.{members_in};
 ghost use Rattle.jv_meaning.specs.Members.{member_or_null};
-ghost use Rattle.jv_data.specs.View.{view};
+ghost use Rattle.jv_meaning.specs.Value.{object};
+ghost use Rattle.jv_data.specs.View.{members_view, view};
 ghost use Rattle.jv_arith.specs.Objects.{union, deep_union, united};
+ghost use Rattle.jv_arith.specs.private.Uniting.{after, leads_to, unite_all};
 
-use jv_data::laws::keys_rise;
 use jv_data::{Object, Val};
-use std::alloc::AllocError;
+use std::alloc::{AllocError, Global};
+use std::collections::btree_map::Iter;
 
 /// Puts the members of the right into the left object, in place if that is not shared.
 pub(crate) fn put_all(left: &mut Object<Val>, right: &Object<Val>) -> Result<(), AllocError>
@@ -20,37 +23,93 @@ pub(crate) fn put_all(left: &mut Object<Val>, right: &Object<Val>) -> Result<(),
     Ok(())
 }
 
+// A union that waits for the union of two objects at a key.
+#[derive(Drop)]
+struct Open<'a> {
+    members: Object<Val>,
+    key: String,
+    // The members of the right that are not united yet.
+    rest: Iter<'a, String, Val>,
+}
+
+// What a union does next.
+#[derive(Drop)]
+enum Step<'a> {
+    Done(Object<Val>),
+    // The union of the two objects comes first, the left one before the right one.
+    Deeper(Open<'a>, Object<Val>, &'a Object<Val>),
+}
+
 /// The members of both: two objects at one key are united in the same way, otherwise the value of the right wins.
-/// The right is the first parameter here and below, because the recursion goes down into it; this proves termination.
-#[cycle(uniting)]
-pub(crate) fn deep_union(right: &Object<Val>, left: Object<Val>) -> Result<Object<Val>, AllocError>
+/// The unions that are not complete are in a list, so that depth takes no stack.
+pub(crate) fn deep_union(
+    alloc: Global,
+    left: Object<Val>,
+    right: &Object<Val>,
+) -> Result<Object<Val>, AllocError>
     ensures { IfOk result (λ o. members_in o ≡ deep_union (members_in left) (members_in right.now)) }
 {
-    keys_rise(right);
+    let mut open = Vec::new(alloc);
+    let mut step = next_step(left, right.iter())?;
+    // (this many steps are never made, but show that the loop ends)
+    for _ in 0..u64::MAX {
+        match step {
+            Step::Done(members) => match open.pop() {
+                None => return Ok(members),
+                Some(outer) => {
+                    step = resumed(outer, members)?;
+                    continue;
+                }
+            },
+            Step::Deeper(outer, left, right) => {
+                open.push(outer)?;
+                step = next_step(left, right.iter())?;
+            }
+        }
+    }
+    Err(AllocError)
+}
+
+// A union goes on after the union that it waits for.
+fn resumed<'a>(outer: Open<'a>, inner: Object<Val>) -> Result<Step<'a>, AllocError>
+    ensures { IfOk result (λ step. leads_to step ≡ after outer.entry (members_in inner)) }
+{
+    let Open { members, key, rest } = outer;
+    let mut members = members;
+    members.insert(key, Val::Table(inner))?;
+    next_step(members, rest)
+}
+
+// Puts members until two objects are to be united.
+fn next_step<'a>(left: Object<Val>, right: Iter<'a, String, Val>) -> Result<Step<'a>, AllocError>
+    ensures { IfOk result (λ step. leads_to step ≡ unite_all (members_in left) (members_view right.entry)) }
+{
     let mut members = left;
-    for (key, value) in right.iter() {
-        let held = member_or_null(&members, key.as_str())?;
-        let value = united(value, &held)?;
-        members.insert(key.clone()?, value)?;
+    let mut rest = right;
+    while let Some((key, value)) = rest.next() {
+        match objects_at(&members, key.as_str(), value)? {
+            Some((left, right)) => {
+                let key = key.clone()?;
+                return Ok(Step::Deeper(Open { members, key, rest }, left, right));
+            }
+            None => members.insert(key.clone()?, value.clone()?)?,
+        }
     }
-    Ok(members)
+    Ok(Step::Done(members))
 }
 
-#[cycle(uniting)]
-fn united(right: &Val, left: &Val) -> Result<Val, AllocError>
-    ensures { IfOk result (λ v. view v ≡ united (view left.now) (view right.now)) }
+// The two objects at a key. `None` if the value of the right wins.
+fn objects_at<'a>(
+    members: &Object<Val>,
+    key: &str,
+    value: &'a Val,
+) -> Result<Option<(Object<Val>, &'a Object<Val>)>, AllocError>
+    ensures { IfOk result (λ found. MatchOption found
+        (view value.now ≡ united (member_or_null (chars key.now) (members_in members.now)) (view value.now))
+        (λ pair. object (deep_union (members_in pair.0) (members_in pair.1.now)) ≡ united (member_or_null (chars key.now) (members_in members.now)) (view value.now))) }
 {
-    match (left, right) {
-        (Val::Table(left), Val::Table(right)) => Ok(Val::Table(deep_union(right, left.share()?)?)),
-        _ => right.clone(),
-    }
-}
-
-fn member_or_null(members: &Object<Val>, key: &str) -> Result<Val, AllocError>
-    ensures { IfOk result (λ v. view v ≡ member_or_null (chars key.now) (members_in members.now)) }
-{
-    match members.get(key) {
-        Some(value) => value.clone(),
-        None => Ok(Val::Null),
+    match (members.get(key), value) {
+        (Some(Val::Table(left)), Val::Table(right)) => Ok(Some((left.share()?, right))),
+        _ => Ok(None),
     }
 }

@@ -70,7 +70,7 @@ pub fn mul(alloc: Global, left: &Val, right: &Val) -> Result<Val, Fail>
             strings::repeated(alloc, text, count)
         }
         (Val::Table(left), Val::Table(right)) => {
-            Ok(Val::Table(objects::deep_union(right, left.share()?)?))
+            Ok(Val::Table(objects::deep_union(alloc, left.share()?, right)?))
         }
         _ => Err(cannot_be_multiplied(alloc, left, right)),
     }
