@@ -1,5 +1,6 @@
-// Values of 100,000 levels: neither their order nor their text nor their drop nor a change of a part takes a part of the stack
-// for each level.
+// Values of 100,000 levels: neither their order nor their text nor their drop nor a change of a part nor a union takes a part of
+// the stack for each level.
+use jv_arith::mul;
 use jv_data::{Array, Object, Val, order, same};
 use jv_text::to_compact_string;
 use jv_value::{delpaths, getpath, setpath};
@@ -16,9 +17,9 @@ fn in_array(alloc: Global, value: Val) -> Result<Val, AllocError> {
     Ok(Val::List(Array::from_vec(alloc, items)?))
 }
 
-fn in_object(alloc: Global, value: Val) -> Result<Val, AllocError> {
+fn in_object(alloc: Global, key: &str, value: Val) -> Result<Val, AllocError> {
     let mut members = Object::new(alloc)?;
-    members.insert(String::from_str(alloc, "a")?, value)?;
+    members.insert(String::from_str(alloc, key)?, value)?;
     Ok(Val::Table(members))
 }
 
@@ -31,9 +32,13 @@ fn arrays(alloc: Global, innermost: i64) -> Result<Val, AllocError> {
 }
 
 fn objects(alloc: Global, innermost: i64) -> Result<Val, AllocError> {
-    let mut value = Val::Num(innermost);
+    in_objects(alloc, Val::Num(innermost))
+}
+
+fn in_objects(alloc: Global, innermost: Val) -> Result<Val, AllocError> {
+    let mut value = innermost;
     for _ in 0..LEVELS {
-        value = in_object(alloc, value)?;
+        value = in_object(alloc, "a", value)?;
     }
     Ok(value)
 }
@@ -116,5 +121,23 @@ fn members_of_many_levels(rt: HostRuntime) -> Result<(), Fail> {
     let name = Val::from_text(alloc, "a")?;
     let left = change(&rt, objects(alloc, 1)?, &greater, &name)?;
     assert_eq!(rt; to_compact_string(alloc, &left)?.len(), 6 * LEVELS - 4);
+    Ok(())
+}
+
+// The two innermost objects are united.
+#[test]
+fn union_of_many_levels(rt: HostRuntime) -> Result<(), Fail> {
+    let alloc = rt.alloc();
+    let left = in_objects(alloc, in_object(alloc, "b", Val::Num(1))?)?;
+    let right = in_objects(alloc, in_object(alloc, "c", Val::Num(2))?)?;
+    let Ok(united) = mul(alloc, &left, &right) else {
+        return Err("no union is made")?;
+    };
+    let path = path_of(alloc, &Val::from_text(alloc, "a")?)?;
+    let Ok(part) = getpath(alloc, &united, path.as_slice()) else {
+        return Err("no part is found")?;
+    };
+    let text = to_compact_string(alloc, &part)?;
+    assert_eq!(rt; text.as_str(), "{\"b\":1,\"c\":2}");
     Ok(())
 }
