@@ -36,7 +36,7 @@ struct Open<'a> {
 #[derive(Drop)]
 enum Step<'a> {
     Done(Object<Val>),
-    // The union of the two objects comes first, the left one before the right one.
+    // The two objects, left and right, are united first.
     Deeper(Open<'a>, Object<Val>, &'a Object<Val>),
 }
 
