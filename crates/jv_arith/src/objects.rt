@@ -40,9 +40,60 @@ enum Step<'a> {
     Deeper(Open<'a>, Object<Val>, &'a Object<Val>),
 }
 
+// How many levels are united by recursion, which is faster than a list of what is open.
+const NEAR: usize = 100;
+
 /// The members of both: two objects at one key are united in the same way, otherwise the value of the right wins.
-/// The unions that are not complete are in a list, so that depth takes no stack.
 pub(crate) fn deep_union(
+    alloc: Global,
+    left: Object<Val>,
+    right: &Object<Val>,
+) -> Result<Object<Val>, AllocError>
+    ensures { IfOk result (λ o. members_in o ≡ deep_union (members_in left) (members_in right.now)) }
+{
+    unite_near(alloc, left, right, NEAR)
+}
+
+// This many levels by recursion, and what is deeper by a list.
+#[cycle(uniting)]
+fn unite_near(
+    alloc: Global,
+    left: Object<Val>,
+    right: &Object<Val>,
+    levels: usize,
+) -> Result<Object<Val>, AllocError>
+    ensures { IfOk result (λ o. members_in o ≡ deep_union (members_in left) (members_in right.now)) }
+{
+    if levels == 0 {
+        return unite_far(alloc, left, right);
+    }
+    let mut members = left;
+    for (key, value) in right.iter() {
+        let value = united_near(alloc, &members, key.as_str(), value, levels - 1)?;
+        members.insert(key.clone()?, value)?;
+    }
+    Ok(members)
+}
+
+// The value at a key of a union.
+#[cycle(uniting)]
+fn united_near(
+    alloc: Global,
+    members: &Object<Val>,
+    key: &str,
+    value: &Val,
+    levels: usize,
+) -> Result<Val, AllocError>
+    ensures { IfOk result (λ v. view v ≡ united (member_or_null (chars key.now) (members_in members.now)) (view value.now)) }
+{
+    match objects_at(members, key, value)? {
+        Some((left, right)) => Ok(Val::Table(unite_near(alloc, left, right, levels)?)),
+        None => value.clone(),
+    }
+}
+
+// The same by a list of the unions that are not complete, so that depth takes no stack.
+fn unite_far(
     alloc: Global,
     left: Object<Val>,
     right: &Object<Val>,

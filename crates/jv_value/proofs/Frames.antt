@@ -1,8 +1,5 @@
 -- A part that is put back into several frames.
 use Rattle.std.proofs.Common.{◌≡◌, ◌∙◌, List, [], ◌∷◌, ◌++◌, Result, Ok, Err, ap, sym, refl}
-use Rattle.jv_data.specs.Fails.{FailsAs}
-use Rattle.jv_data.specs.declared.failures.Fail.{Fail}
-use Rattle.jv_data.specs.declared.failures.Fail.TheVariants.{Raised, NoMemory}
 use Rattle.jv_meaning.specs.Value.{Value}
 use Rattle.jv_value.specs.Results.{and_then}
 use Rattle.jv_value.specs.SetPath.{part_at, put_at, setpath_of}
@@ -30,8 +27,3 @@ pub set_deeper : (v k part : Value) (ks : List Value) (x : Value) (f : Frame) (f
 set_deeper v k part ks x f fs h =
     put_deeper v k f fs (setpath_of part ks x) h.back
     ∙ ap (λ r. and_then (and_then r (λ q. and_then (setpath_of q ks x) (put_at v k))) (put_into_all fs)) (sym h.taken)
-
--- a key that the part does not accept
-pub set_fails : (failure : Fail) (v k : Value) (ks : List Value) (x : Value) (fs : List Frame) → FailsAs failure (part_at v k) → FailsAs failure (and_then (setpath_of v (k ∷ ks) x) (put_into_all fs))
-set_fails (Raised e) v k ks x fs h = ap (λ r. and_then (and_then r (λ q. and_then (setpath_of q ks x) (put_at v k))) (put_into_all fs)) h
-set_fails NoMemory v k ks x fs h = tt

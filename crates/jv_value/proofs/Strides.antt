@@ -1,9 +1,6 @@
 -- The locations that a path names, key by key.
 use Rattle.std.proofs.Common.{◌≡◌, ◌∙◌, ℕ, ℤ, List, [], ◌∷◌, ◌++◌, length, Option, Some, None, Result, Ok, Err, unwrap_or, slice_range, ap, sym, refl}
 use Rattle.std.specs.Option.{option_map, option_map_or, ok_or}
-use Rattle.jv_data.specs.Fails.{FailsAs}
-use Rattle.jv_data.specs.declared.failures.Fail.{Fail}
-use Rattle.jv_data.specs.declared.failures.Fail.TheVariants.{Raised, NoMemory}
 use Rattle.jv_meaning.specs.Members.{member_at}
 use Rattle.jv_meaning.specs.Value.{Value, null, number, string, array, object, items_of, values_of, Members}
 use Rattle.jv_meaning.proofs.Items.{values_of-items_of}
@@ -61,11 +58,6 @@ strides_further v k part ks s ss h = before_last ss s (locations_of part ks) ∙
 -- a key that leads nowhere
 pub strides_end : (v k : Value) (ks : List Value) (ss : List Stride) → stride v k ≡ Ok None → map_ok (before_all ss) (locations_of v (k ∷ ks)) ≡ Ok []
 strides_end v k ks ss h = ap (map_ok (before_all ss)) (by_strides v k ks ∙ ap (λ r. and_then r (further ks)) h) ∙ ap Ok (nothing_before_all ss)
-
--- a key that the value does not accept
-pub strides_fail : (failure : Fail) (v k : Value) (ks : List Value) (ss : List Stride) → FailsAs failure (stride v k) → FailsAs failure (map_ok (before_all ss) (locations_of v (k ∷ ks)))
-strides_fail (Raised e) v k ks ss h = ap (map_ok (before_all ss)) (by_strides v k ks ∙ ap (λ r. and_then r (further ks)) h)
-strides_fail NoMemory v k ks ss h = tt
 
 -- an index and the bounds of a slice, in an array
 pub stride_item : (vs : List Value) (n : ℤ) (o : Option ℕ) → place_of (length vs) n ≡ o → stride (array (items_of vs)) (number n) ≡ Ok (option_map (λ i. (to_part (at i), unwrap_or (item_at n vs) null)) o)

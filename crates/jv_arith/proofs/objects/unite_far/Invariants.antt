@@ -3,7 +3,7 @@ use Rattle.jv_data.specs.Held.{members_in}
 use Rattle.jv_arith.specs.Objects.{deep_union}
 use Rattle.jv_arith.specs.private.Uniting.{leads_to}
 use Rattle.jv_arith.proofs.Uniting.{after_all}
-use Rattle.jv_arith.proofs.objects.deep_union.Given as goal
+use Rattle.jv_arith.proofs.objects.unite_far.Given as goal
 
 -- what the step leads to, and then the open unions, is the union
 abbrev pub invariant-loop : goal.invariant-loop

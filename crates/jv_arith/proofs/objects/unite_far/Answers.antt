@@ -4,7 +4,7 @@ use Rattle.jv_arith.specs.Objects.{deep_union}
 use Rattle.jv_arith.specs.private.Uniting.{leads_to, unite_all}
 use Rattle.jv_arith.proofs.Uniting.{after_all, after_all-last}
 use Rattle.jv_arith.proofs.Unions.{unite_all-deep_union}
-use Rattle.jv_arith.proofs.objects.deep_union.Goals as goal
+use Rattle.jv_arith.proofs.objects.unite_far.Goals as goal
 
 pub loop-init : goal.loop-init
 loop-init c =
