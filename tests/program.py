@@ -410,6 +410,102 @@ def deep_calls_and_nested_arrays(program):
     return (got := ran(program, ["--depth", "100000", "-n", arrays])) != (b"0\n", b"", 0) and f"arrays: got {got}"
 
 
+# Values of 100,000 levels: what makes them, the path to their innermost part, and the length of their text.
+DEEP_VALUES = [
+    ("reduce range(100000) as $i (0; [.])", "[range(100000) | 0]", 200_001),
+    ("reduce range(100000) as $i (0; {a: .})", '[range(100000) | "a"]', 600_001),
+    ("reduce range(50000) as $i (0; [{a: .}])", '[range(50000) | 0, "a"]', 400_001),
+]
+# What is done with one, and what that writes; more or less than its text is written as a difference.
+ON_DEEP_VALUES = [
+    ("empty", []),
+    ("tojson, @text | length", ["+0", "+0"]),
+    (". == deep, . < deep", ["true", "false"]),
+    ("[., deep] | sort, unique, group_by(.), unique_by(.) | length", ["2", "1", "1", "1"]),
+    ("[., deep] | min == max", ["true"]),
+    ("[.] - [deep] | length", ["0"]),
+    ("[.] | index([deep])", ["0"]),
+    ("contains(deep), inside(deep)", ["true", "true"]),
+    ("getpath(path), (setpath(path; 7), (getpath(path) |= 8) | getpath(path))", ["0", "7", "8"]),
+    ("null | setpath(path; 7) | tojson | length", ["+0"]),
+    ("delpaths([path]) == deep, (del(.[]) | length)", ["false", "0"]),
+    ("(.[] |= 5) | tojson | length < 9", ["true"]),
+    ("[.] | flatten | length", ["1"]),
+    ("{a: .} * {a: deep}, {a: .} + {a: deep} | tojson | length", ["+6", "+6"]),
+    ("deep * deep? // . | tojson | length", ["+0"]),
+    ("try error catch . | tojson | length", ["+0"]),
+    ("reduce (1, 2) as $x (.; [.]) | tojson | length", ["+4"]),
+    ("[foreach (1, 2) as $x (.; [.]; tojson | length)] | .[]", ["+2", "+4"]),
+    ("first(deep, 1), ([limit(1; deep)] | .[0]) | tojson | length", ["+0", "+0"]),
+]
+
+
+def in_a_small_stack(program, words, **streams):
+    """What a command writes that has a stack of 1 MiB, and its status."""
+    limit = 1 << 20
+    process = start(program, *words, preexec_fn=lambda: resource.setrlimit(resource.RLIMIT_STACK, (limit, limit)), **streams)
+    given = b"" if "stdin" not in streams else None
+    out, told = process.communicate(given, timeout=SECONDS)
+    return out, told, process.returncode
+
+
+def deep_values(program):
+    """A value may have any depth: what is done with it takes no stack for each level."""
+
+    def wrong(row):
+        (made, path, size), (text, lines) = row
+        want = "".join(f"{size + int(line) if line[0] == '+' else line}\n" for line in lines).encode()
+        got = in_a_small_stack(program, ["-n", f"def deep: {made}; def path: {path}; deep | {text}"], stdin=subprocess.DEVNULL)
+        return got != (want, b"", 0) and f"{made} | {text}: wanted {want}, got {got[0][:80]!r}, {got[1][:80]!r}, status {got[2]}"
+
+    with concurrent.futures.ThreadPoolExecutor(os.cpu_count()) as pool:
+        found = list(pool.map(wrong, [(value, row) for value in DEEP_VALUES for row in ON_DEEP_VALUES]))
+    return next((fault for fault in found if fault), None)
+
+
+def deep_values_are_written(program):
+    """As outputs, laid out too, as the line of an error and as what a halt writes."""
+    brackets, levels = (b"[" * 100_000, b"]" * 100_000), 3_000
+    text = brackets[0] + b"0" + brackets[1] + b"\n"
+    opened = [b"  " * level + b"[\n" for level in range(levels)]
+    closed = [b"\n" + b"  " * level + b"]" for level in reversed(range(levels))]
+    laid_out = b"".join([*opened, b"  " * levels, b"0", *closed, b"\n"])
+    wants = [
+        (["-nc", "reduce range(100000) as $i (0; [.])"], (text, b"", 0)),
+        (["-n", f"reduce range({levels}) as $i (0; [.])"], (laid_out, b"", 0)),
+        (["-n", "reduce range(100000) as $i (0; [.]) | error"], (b"", b"jq: error (not a string): " + text, 5)),
+        (["-n", "reduce range(100000) as $i (0; [.]) | halt_error"], (b"", text, 5)),
+    ]
+    for words, want in wants:
+        out, told, status = in_a_small_stack(program, words, stdin=subprocess.DEVNULL)
+        if (out, told, status) != want:
+            return f"{words}: got {len(out)} bytes {out[:40]!r}, {len(told)} bytes {told[:40]!r}, status {status}"
+    return None
+
+
+def deep_values_in_a_session(program):
+    """Each edit makes a value of 100,000 levels, by a run on each input or by a fold over all."""
+
+    def shown(*values):
+        lines = b"".join(b"[" * levels + text + b"]" * levels + b"\n" for levels, text in values)
+        return b"out %d\n%b" % (len(lines), lines)
+
+    script = b"append 1\nappend 2\nshow\nreplace 0 3\nremove 1\nshow\n"
+    wants = [
+        ("-c", "reduce range(100000) as $i (.; [.])", [(100_000, b"1"), (100_000, b"2")], [(100_000, b"3")]),
+        ("-nc", "reduce (inputs | range(50000 * .)) as $i (0; [.])", [(150_000, b"0")], [(150_000, b"0")]),
+    ]
+    for option, text, before, after in wants:
+        with tempfile.TemporaryFile() as lines:
+            lines.write(script)
+            lines.seek(0)
+            got = in_a_small_stack(program, ["--live", option, text], stdin=lines)
+        want = b"ok 0\nok 0\n%bok 0\nok 0\n%b" % (shown(*before), shown(*after))
+        if got != (want, b"", 0):
+            return f"{text}: got {len(got[0])} bytes {got[0][:60]!r}, {got[1][:60]!r}, status {got[2]}"
+    return None
+
+
 def filters_at_their_limits(program):
     """8,192 tokens and 256 open brackets are taken, one more of each is refused."""
     wants = [
@@ -525,6 +621,9 @@ TESTS = [
     length_comes_before_nesting,
     bytes_that_end_a_number,
     deep_calls_and_nested_arrays,
+    deep_values,
+    deep_values_are_written,
+    deep_values_in_a_session,
     filters_at_their_limits,
     the_deepest_filters,
     beginnings_of_the_prelude,
