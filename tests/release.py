@@ -182,7 +182,7 @@ def the_released_program_is_that_of_its_sources(program):
 
 
 FAKE_KIT = '''
-import pathlib, time, types
+import os, pathlib, time, types
 KIT = "/nowhere"
 ROWS = [line.split(":") for line in pathlib.Path("crates.txt").read_text().splitlines()]
 known = {}
@@ -200,7 +200,7 @@ class Crate:
         made = pathlib.Path(self.folder, "out/stamp")
         return made.is_file() and made.read_text() == self.stamp()
     def build_rlib(self, flags, anew):
-        print("built with", flags, file=self.out)
+        print("built with", *flags, "at niceness", os.getpriority(os.PRIO_PROCESS, 0), file=self.out)
         if not all(it.is_built() for it in self.deps):
             raise ValueError("a library below is not built")
         time.sleep(0.2)
@@ -217,39 +217,62 @@ read_files, processors, free = lambda it: None, lambda: 2, lambda: 64 << 30
 '''
 
 
+def put_crates(top, crates_txt):
+    """A tree of crates over a kit that proves nothing."""
+    shutil.copytree(ROOT / "tools", top / "tools")
+    (top / "bin").mkdir()
+    (top / "bin" / "rt").write_text(FAKE_KIT)
+    (top / "bin" / "rt").chmod(0o755)
+    (top / "crates.txt").write_text(crates_txt)
+    for line in crates_txt.splitlines():
+        name = line.split(":")[0]
+        (top / "crates" / name / "src").mkdir(parents=True)
+        (top / "crates" / name / "src" / "lib.rt").write_text(name)
+
+
+def build_crates(top, lanes):
+    """What tools/build.py ends with, what it prints, and the crates in the order of their ends."""
+    surroundings = {**os.environ, "PATH": f"{top / 'bin'}{os.pathsep}{os.environ['PATH']}", "JOBS": str(lanes)}
+    (top / "order").write_text("")
+    status, told = call([sys.executable, "tools/build.py"], cwd=top, env=surroundings)
+    return status, told, (top / "order").read_text().split()
+
+
 def the_build_goes_from_the_bottom_up(program):
     """tools/build.py over a kit that proves nothing: libraries first, each once, only those that have changed, and none after a failure."""
     with tempfile.TemporaryDirectory() as folder:
         top = pathlib.Path(folder)
-        shutil.copytree(ROOT / "tools", top / "tools")
-        (top / "bin").mkdir()
-        (top / "bin" / "rt").write_text(FAKE_KIT)
-        (top / "bin" / "rt").chmod(0o755)
-        (top / "crates.txt").write_text("a:\nb: a\nc: a\nd: b c\njql: d a\n")
-        for name in ("a", "b", "c", "d", "jql"):
-            (top / "crates" / name / "src").mkdir(parents=True)
-            (top / "crates" / name / "src" / "lib.rt").write_text(name)
-        surroundings = {**os.environ, "PATH": f"{top / 'bin'}{os.pathsep}{os.environ['PATH']}", "JOBS": "2"}
-
-        def build():
-            (top / "order").write_text("")
-            status, told = call([sys.executable, "tools/build.py"], cwd=top, env=surroundings)
-            return status, told, (top / "order").read_text().split()
+        put_crates(top, "a:\nb: a\nc: a\nd: b c\njql: d a\n")
 
         def change(name, text):
             (top / "crates" / name / "src" / "lib.rt").write_text(text)
 
         change("c", "c wrong")
-        status, told, order = build()
+        status, told, order = build_crates(top, 2)
         if (status, sorted(order)) != (1, ["a", "b"]) or "c is not proved. The end of crates/c/out/build.log:\n\nbuilt with" not in told:
             return "after a failure", status, told, order
         change("c", "c")
-        status, told, order = build()
+        status, told, order = build_crates(top, 2)
         if order != ["c", "d", "jql"] or "3 of 5 crates are to be proved, 2 at a time" not in told or "[3/5] c" not in told:
             return "after its repair", status, told, order
         change("b", "b changed")
-        status, told, order = build()
+        status, told, order = build_crates(top, 2)
         return order != ["b", "d", "jql"] and ("after a change", status, told, order)
+
+
+def the_longest_chain_goes_first(program):
+    """A crate that begins the longest chain has two jobs, also where one lane is left, and the others are nicer. Two lanes are not shared so."""
+    with tempfile.TemporaryDirectory() as folder:
+        top = pathlib.Path(folder)
+        put_crates(top, "a:\nb: a\nc: a\nd: c\ne: d\nf: a\njql: e b f\n")
+        for lanes, wants in ((3, {"c": (2, 0), "b": (1, 10), "d": (2, 0), "jql": (2, 0)}), (2, {"c": (1, 0), "b": (1, 0)})):
+            status, told, _ = build_crates(top, lanes)
+            for name, (jobs, nicer) in wants.items():
+                log = (top / "crates" / name / "out" / "build.log").read_text()
+                if log != f"built with --jobs {jobs} at niceness {os.getpriority(os.PRIO_PROCESS, 0) + nicer}\n":
+                    return name, lanes, status, told, log
+            (top / "crates" / "a" / "src" / "lib.rt").write_text("a changed")
+    return None
 
 
 TESTS = [
@@ -261,6 +284,7 @@ TESTS = [
     what_is_installed_is_removed,
     the_released_program_is_that_of_its_sources,
     the_build_goes_from_the_bottom_up,
+    the_longest_chain_goes_first,
 ]
 
 

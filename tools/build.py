@@ -21,7 +21,7 @@ import signal
 import sys
 import threading
 import time
-from concurrent.futures import FIRST_COMPLETED, ThreadPoolExecutor, wait
+from concurrent.futures import FIRST_COMPLETED, Future, wait
 
 import release
 
@@ -34,6 +34,9 @@ MINUTES_TO_LOAD, MINUTES_A_LINE = 0.15, 1 / 1500
 # The most jobs for one crate (two take a third off its time, more only processor time), and the silence after which a line
 # says what runs.
 JOBS_AT_MOST, SECONDS_OF_SILENCE = 2, 45
+# The crate that begins the longest chain goes before the others: it gets all its jobs from this number of lanes on, and the processors
+# first, since the others run with this niceness.
+LANES_TO_SHARE, NICENESS = 3, 10
 LINES_OF_A_LOG = 40
 
 
@@ -104,8 +107,9 @@ def is_up_to_date(kit, crate):
     return kit.rtlib.text_of(f"{made}.stamp") == crate.stamp() + kit.rtlib.sum_of(made)
 
 
-def build(crate, jobs):
-    """Builds one crate, all below it being built, and answers whether it was proved."""
+def build(crate, jobs, niceness):
+    """Builds one crate, all below it being built, and answers whether it was proved. What this thread starts has its niceness."""
+    os.setpriority(os.PRIO_PROCESS, threading.get_native_id(), os.getpriority(os.PRIO_PROCESS, 0) + niceness)
     out = pathlib.Path(crate.folder, "out")
     out.mkdir(exist_ok=True)
     with open(out / "build.log", "w") as crate.out:
@@ -168,6 +172,20 @@ def clock(seconds):
     return f"{minutes}m{seconds:02}s" if minutes else f"{seconds}s"
 
 
+def started(call, *arguments):
+    """The future of a call in a thread of its own: a thread cannot take back its niceness, so none is used again."""
+    future = Future()
+
+    def answer():
+        try:
+            future.set_result(call(*arguments))
+        except BaseException as error:
+            future.set_exception(error)
+
+    threading.Thread(target=answer, daemon=True).start()
+    return future
+
+
 class Run:
     """A run over crates: those that are done, those that run (a future's crate, start and jobs), and those that are left."""
 
@@ -181,16 +199,24 @@ class Run:
         self.silent_since = time.monotonic()
         print(text, flush=True)
 
-    def start(self, pool):
-        """Starts crates whose libraries are all done. The lanes that no crate needs go to the one with the longest chain."""
+    def is_first(self, crate):
+        """Whether this crate begins the longest chain that is left, and there are lanes enough to put it before the others."""
+        begun = [it for it, _, _ in self.running.values()]
+        return self.lanes >= LANES_TO_SHARE and all(self.chains[crate.name] >= self.chains[it.name] for it in [*self.left, *begun])
+
+    def start(self):
+        """Starts crates whose libraries are all done. The one with the longest chain has all its jobs, also where no lane is idle; lanes that
+        no other crate needs go to the next ones."""
         ready = [crate for crate in self.left if all(low.name in self.done for low in crate.deps)]
         for at, crate in enumerate(ready):
             idle = self.lanes - sum(jobs for _, _, jobs in self.running.values())
-            if idle < 1:
+            is_first = self.is_first(crate)
+            if idle < 1 and not is_first:
                 return
-            jobs = min(JOBS_AT_MOST, max(1, idle - (len(ready) - at - 1)))
+            jobs = JOBS_AT_MOST if is_first else min(JOBS_AT_MOST, max(1, idle - (len(ready) - at - 1)))
             self.left.remove(crate)
-            self.running[pool.submit(build, crate, jobs)] = crate, time.monotonic(), jobs
+            niceness = 0 if is_first or self.lanes < LANES_TO_SHARE else NICENESS
+            self.running[started(build, crate, jobs, niceness)] = crate, time.monotonic(), jobs
 
     def end(self, future):
         crate, since, _ = self.running.pop(future)
@@ -208,17 +234,16 @@ class Run:
         self.say("still running: " + ", ".join(f"{crate.name} since {clock(now - since)}" for crate, since, _ in self.running.values()))
 
     def go(self):
-        with ThreadPoolExecutor(max(1, self.lanes)) as pool:
-            while True:
-                if not self.failed:
-                    self.start(pool)
-                if not self.running:
-                    return
-                left = SECONDS_OF_SILENCE - (time.monotonic() - self.silent_since)
-                for future in wait(self.running, max(0.1, left), FIRST_COMPLETED).done:
-                    self.end(future)
-                if self.running and time.monotonic() - self.silent_since >= SECONDS_OF_SILENCE:
-                    self.tell_what_runs()
+        while True:
+            if not self.failed:
+                self.start()
+            if not self.running:
+                return
+            left = SECONDS_OF_SILENCE - (time.monotonic() - self.silent_since)
+            for future in wait(self.running, max(0.1, left), FIRST_COMPLETED).done:
+                self.end(future)
+            if self.running and time.monotonic() - self.silent_since >= SECONDS_OF_SILENCE:
+                self.tell_what_runs()
 
 
 def tell_failures(failed):
