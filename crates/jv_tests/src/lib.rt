@@ -11,6 +11,8 @@ mod containers;
 #[cfg(test)]
 mod deep;
 #[cfg(test)]
+mod deep_memory;
+#[cfg(test)]
 mod memory;
 #[cfg(test)]
 mod reading;

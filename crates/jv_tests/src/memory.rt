@@ -20,7 +20,7 @@ const MARK: usize = 424_243;
 
 /// Every allocation after this one may be refused.
 #[inline(never)]
-fn mark(alloc: Global) -> Result<Vec<u8>, AllocError> {
+pub(crate) fn mark(alloc: Global) -> Result<Vec<u8>, AllocError> {
     Vec::with_capacity(alloc, MARK)
 }
 
@@ -120,8 +120,8 @@ const STYLES: [(bool, bool, bool); 6] = [
     (false, true, true),
 ];
 
-// Prints after bytes that are there already. They stay as they are if memory runs out.
-fn print_again(
+/// Prints after bytes that are there already. They stay as they are if memory runs out.
+pub(crate) fn print_again(
     rt: &(impl Abort + AllocGlobal),
     value: &Val,
     style: Style,
@@ -283,8 +283,8 @@ fn call(alloc: Global, name: &str, values: &[Val; 3]) -> Result<Val, Failure> {
     }
 }
 
-// What a call answers or raises, again if memory runs out.
-fn call_again(alloc: Global, name: &str, values: &[Val; 3]) -> Result<Val, Fail> {
+/// What a call answers or raises, again if memory runs out.
+pub(crate) fn call_again(alloc: Global, name: &str, values: &[Val; 3]) -> Result<Val, Fail> {
     let answer = match call(alloc, name, values) {
         Err(Failure::NoMemory) => call(alloc, name, values),
         answer => answer,
