@@ -19,7 +19,7 @@ pub(crate) struct Row {
     pub(crate) status: u8,
 }
 
-pub(crate) const ROWS: [Row; 5] = [
+pub(crate) const ROWS: [Row; 6] = [
     Row {
         flag: "",
         filter: ".",
@@ -35,6 +35,14 @@ pub(crate) const ROWS: [Row; 5] = [
         out: "1\n2\n",
         err: "jq: error: Cannot index number with \"a\"\n",
         status: 5,
+    },
+    Row {
+        flag: "-e",
+        filter: ".a",
+        text: b"{\"a\":null}",
+        out: "null\n",
+        err: "",
+        status: 1,
     },
     Row {
         flag: "-n",

@@ -1,7 +1,7 @@
 //! Tests of the calls of the language and of the program, of what no command of `tests/` shows: plans, the fields of a refusal,
 //! the parts of a program, and tokens that no filter has; how often a session starts the filter, and the splices of its edits;
-//! natives and files; the first answers of an engine; devices that fail, damaged texts in pieces, and calls that are refused
-//! memory.
+//! natives and files; the first answers of an engine; runs and scripts whose devices fail, damaged texts in pieces, and calls that
+//! are refused memory.
 //!
 //! The contracts are proved. These tests show that the calls return their answers if there is enough memory.
 #![tactic(auto)]
@@ -19,6 +19,8 @@ mod fakes;
 #[cfg(test)]
 mod files;
 #[cfg(test)]
+mod fold_memory;
+#[cfg(test)]
 mod folds;
 #[cfg(test)]
 mod halts;
@@ -27,11 +29,17 @@ mod memory;
 #[cfg(test)]
 mod moves;
 #[cfg(test)]
+mod native_memory;
+#[cfg(test)]
 mod pieces;
 #[cfg(test)]
 mod programs;
 #[cfg(test)]
 mod refilters;
+#[cfg(test)]
+mod script_memory;
+#[cfg(test)]
+mod scripts;
 #[cfg(test)]
 mod session_memory;
 #[cfg(test)]

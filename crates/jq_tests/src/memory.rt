@@ -256,8 +256,8 @@ fn streams(rt: HostRuntime) -> Result<(), Fail> {
 
 // ---- sessions
 
-// An edit: its name, its place, a number, and then the session's output, errors and status.
-type Line = (&'static str, u64, i64, (&'static str, &'static str, u8));
+/// An edit: its name, its place, a number, and then the session's output, errors and status.
+pub(crate) type Line = (&'static str, u64, i64, (&'static str, &'static str, u8));
 
 fn edit(session: &mut Session, (name, k, number, _): Line) -> Result<Follow, Refusal> {
     match name {
@@ -286,8 +286,8 @@ pub(crate) fn check_session(
     Ok(())
 }
 
-// Makes each edit. One that finds no memory leaves the session as it was, and is made again.
-fn check_edits(
+/// Makes each edit. One that finds no memory leaves the session as it was, and is made again.
+pub(crate) fn check_edits(
     rt: &impl Abort,
     session: &mut Session,
     first: (&'static str, &'static str, u8),

@@ -9,12 +9,12 @@ use std::alloc::{AllocError, Global};
 use std::rt::HostRuntime;
 use std::test::Fail;
 
-/// The options of a command with compact output and this flag, `-n`, `-s` or none.
+/// The options of a command with compact output and this flag, `-n`, `-s`, `-e` or none.
 pub(crate) fn options(alloc: Global, flag: &str) -> Options {
     Options {
         null: flag == "-n",
         slurp: flag == "-s",
-        exit: false,
+        exit: flag == "-e",
         style: Style {
             compact: true,
             raw: false,
