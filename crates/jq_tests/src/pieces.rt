@@ -9,8 +9,9 @@ use std::process::Abort;
 use std::test::Fail;
 use std::{env, io};
 
-// How many texts are tried, if no argument of the test program after the name of the test says so.
-const COUNT: u64 = 20_000;
+// How many texts are tried, if no argument of the test program after the name of the test says so. One in eight is random bytes, some
+// 20 of them, and the others have three changes for every two texts: more than a million random bytes and a million changes in all.
+const COUNT: u64 = 1_000_000;
 
 const TEXTS: [&[u8]; 12] = [
     b"{\"a\":[1,\"x\\u0041\"]} [2]",
