@@ -7,6 +7,7 @@ use std::mem;
 // How many levels of a value may be dropped by recursion.
 const NEAR: usize = 16;
 
+// The functions that a drop calls are not inlined, so that the drop of a number takes a few instructions.
 impl Val {
     // The first part of a container, if this is the only reference to its parts.
     fn first_part(&mut self) -> Option<&mut Val> {
@@ -33,6 +34,7 @@ impl Val {
     }
 }
 
+#[inline(never)]
 pub(crate) fn items_may_be_deep(items: &Array<Val>) -> bool {
     match items.if_only() {
         None => false,
@@ -40,6 +42,7 @@ pub(crate) fn items_may_be_deep(items: &Array<Val>) -> bool {
     }
 }
 
+#[inline(never)]
 pub(crate) fn members_may_be_deep(members: &Object<Val>) -> bool {
     match members.if_only() {
         None => false,
@@ -110,6 +113,7 @@ fn leads_deep(value: &Val, levels: usize) -> bool {
     }
 }
 
+#[inline(never)]
 pub(crate) fn take_items_apart(items: Array<Val>) {
     match items.into_last() {
         None => {}
@@ -122,6 +126,7 @@ pub(crate) fn take_items_apart(items: Array<Val>) {
     }
 }
 
+#[inline(never)]
 pub(crate) fn take_members_apart(members: Object<Val>) {
     match members.into_last() {
         None => {}
