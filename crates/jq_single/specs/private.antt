@@ -2,9 +2,9 @@
 pub mod Scopes
 pub mod Finds
 pub mod Parts
+pub mod Natives
 pub mod Making
 pub mod Gathering
-pub mod Locating
 pub mod Around
 pub mod States
 pub mod UpdateTurns

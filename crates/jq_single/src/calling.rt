@@ -1,177 +1,263 @@
-// Calls.
-ghost use Rattle.std.specs.Prelude.{map};
+// Calls of one output, and those whose output replaces their input.
+ghost use Rattle.std.specs.Prelude.{◌≡◌, map};
 ghost use Rattle.jv_meaning.specs.Text.{text_of};
+ghost use Rattle.jv_meaning.specs.Value.{Value};
 ghost use Rattle.jv_data.specs.View.{view};
 ghost use Rattle.jq_ast.specs.Named.{name_of, named};
 ghost use Rattle.jq_tree.specs.Tree.{trees_of};
 ghost use Rattle.jq_tree.specs.Tree as form;
-ghost use Rattle.jq_state.specs.Environments.{count_of};
-ghost use Rattle.jq_single.specs.private.Scopes.{ScopeFits};
-ghost use Rattle.jq_single.specs.private.Parts.{RunsBelow, RunsFunction, RunsTo};
+ghost use Rattle.jq_operations.specs.Language.{meaning_of};
+ghost use Rattle.jq_meaning.specs.Builtins.{plain_native};
+ghost use Rattle.jq_meaning.specs.Builtins as meaning;
+ghost use Rattle.jq_meaning.specs.Env.{with_arguments};
+ghost use Rattle.jq_meaning.specs.Runs.{Run};
+ghost use Rattle.jq_single.specs.Single.{Changed, Keeps};
+ghost use Rattle.jq_single.specs.private.Parts.{ChangesBelow, ChangesByBuiltin, ChangesByNative, ChangesTo, RunsBelow, RunsBuiltin, RunsTo};
+ghost use Rattle.jq_single.specs.private.Natives.{RunsNative};
+ghost use Rattle.jq_single.specs.private.Scopes.{scope_env};
 
 use crate::contexts::Context;
 use crate::finding::{Found, callee_of, prelude_of};
-use crate::getting::get;
-use crate::natives::get_builtin;
 use crate::scopes::Scope;
-use crate::stops::Stop;
-use jq_ast::{Name, Tree};
-use jq_operations::builtin_named;
-use jq_state::environments::Nodes;
-use jv_data::Val;
+use crate::stops::{Stop, answer};
+use jq_ast::{Function, Name, Tree};
+use jq_natives::{Native, call, call_in_place};
+use jq_operations::{Builtin, builtin_named};
+use jv_data::{Fail, Val};
 use std::alloc::Global;
+use std::mem::replace;
 
-/// `a(f; g)`: a call of a function, of a filter that was passed, or of a name of the language.
-#[cycle(single)]
-#[inline(never)]
-pub(crate) fn get_call<'s>(
-    alloc: Global,
-    nodes: &Nodes<'s>,
-    name: &Name,
-    arguments: &'s [Tree],
-    context: &Context<'s>,
-    value: &Val,
-) -> Result<Val, Stop>
-    requires { ScopeFits (count_of nodes.now) context.now.scope.now }
-    ensures { RunsTo nodes.now context.now (form.call (name_of name.now) (trees_of (map named arguments.now))) (view value.now) result }
-{
-    match callee_of(nodes, context.scope, name, arguments.len()) {
-        Found::Function(function, own) => {
-            let parameters = function.parameters.as_slice();
-            get_function(
-                alloc,
-                nodes,
-                parameters,
-                arguments,
-                &function.body,
-                &own,
-                context,
-                value,
-            )
-        }
-        Found::Closure(body, own) => get_body(alloc, nodes, body, &own, context, value),
-        Found::Nothing => {
-            let builtin = builtin_named(name.text.as_str(), arguments.len());
-            get_builtin(alloc, nodes, builtin, arguments, context, value)
-        }
-    }
-}
-
-/// A call of the prelude's own function.
-#[cycle(single)]
-#[inline(never)]
-pub(crate) fn get_prelude_call<'s>(
-    alloc: Global,
-    nodes: &Nodes<'s>,
-    name: &Name,
-    arguments: &'s [Tree],
-    context: &Context<'s>,
-    value: &Val,
-) -> Result<Val, Stop>
-    requires { ScopeFits (count_of nodes.now) context.now.scope.now }
-    ensures { RunsTo nodes.now context.now (form.prelude_call (name_of name.now) (trees_of (map named arguments.now))) (view value.now) result }
-{
-    match prelude_of(nodes, context.scope, name, arguments.len()) {
-        Found::Function(function, own) => {
-            let parameters = function.parameters.as_slice();
-            get_function(
-                alloc,
-                nodes,
-                parameters,
-                arguments,
-                &function.body,
-                &own,
-                context,
-                value,
-            )
-        }
-        _ => Err(Stop::Unknown),
-    }
-}
-
-// Runs the body of a function in its own scope; the arguments see the caller's bindings.
-#[cycle(single)]
-#[inline(never)]
-fn get_function<'s>(
-    alloc: Global,
-    nodes: &Nodes<'s>,
-    parameters: &'s [String],
-    arguments: &'s [Tree],
-    body: &'s Tree,
-    own: &Scope<'s>,
-    context: &Context<'s>,
-    value: &Val,
-) -> Result<Val, Stop>
-    requires own { ScopeFits (count_of nodes.now) own.now }
-    requires caller { ScopeFits (count_of nodes.now) context.now.scope.now }
-    ensures { RunsFunction nodes.now context.now (map text_of parameters.now) (trees_of (map named arguments.now)) (named body.now) own.now (view value.now) result }
-{
-    match parameters {
-        [] => get_body(alloc, nodes, body, own, context, value),
-        [parameter, later @ ..] => {
-            match arguments {
-                [argument, others @ ..] => {
-                    let bound = Scope::Closure(&*own, &*parameter, &*argument, &*context.scope);
-                    get_bound(
-                        alloc, &*nodes, &*later, &*others, &*body, &bound, &*context, value,
-                    )
-                }
-                [] => Err(Stop::Unknown),
+impl<'s> Context<'s> {
+    /// `a(f; g)`: a call of a function, of a filter that was passed, or of a name of the language.
+    #[cycle(single)]
+    #[inline(never)]
+    pub(crate) fn get_call(
+        &self,
+        name: &Name,
+        arguments: &'s Vec<Tree>,
+        value: &Val,
+    ) -> Result<Val, Stop>
+        ensures { RunsTo self.now (form.call (name_of name.now) (trees_of (map named arguments.now.items))) (view value.now) result }
+    {
+        let count = arguments.len();
+        match callee_of(self.scope, name, count) {
+            Found::Function(function, own) => {
+                let scope = scope_of_call(&own, &*function, &*arguments, &*self.scope);
+                (&*self).get_body(&function.body, &scope, value)
+            }
+            Found::Closure(body, own) => self.get_body(body, &own, value),
+            Found::Nothing => {
+                let builtin = builtin_named(name.text.as_str(), count);
+                self.get_builtin(builtin, arguments.as_slice(), value)
             }
         }
     }
+
+    // Runs a body in its own scope, with a call depth that is smaller by one.
+    #[cycle(single)]
+    fn get_body(&self, body: &'s Tree, own: &Scope<'s>, value: &Val) -> Result<Val, Stop>
+        ensures { RunsBelow self.now own.now (named body.now) (view value.now) result }
+    {
+        if self.depth == 0 {
+            return Err(Stop::Unknown);
+        }
+        let inside = Context {
+            scope: &*own,
+            depth: self.depth - 1,
+            ..*self
+        };
+        inside.get(&*body, value)
+    }
+
+    /// A name of the language. `setpath` and `delpaths` would copy the value, so they are not run at once here.
+    #[cycle(single)]
+    pub(crate) fn get_builtin(
+        &self,
+        builtin: Builtin,
+        arguments: &'s [Tree],
+        value: &Val,
+    ) -> Result<Val, Stop>
+        ensures { RunsBuiltin self.now (meaning_of builtin) (trees_of (map named arguments.now)) (view value.now) result }
+    {
+        match builtin {
+            Builtin::NoOutputs => Err(Stop::Nothing),
+            Builtin::Native(Native::SetPath) => Err(Stop::Unknown),
+            Builtin::Native(Native::DelPaths) => Err(Stop::Unknown),
+            Builtin::Native(native) => self.get_native(native, arguments, value),
+            Builtin::Paths => self.get_path(arguments, value),
+            _ => Err(Stop::Unknown),
+        }
+    }
+
+    // A native with at most one argument.
+    #[cycle(single)]
+    #[inline(never)]
+    fn get_native(&self, native: Native, arguments: &'s [Tree], value: &Val) -> Result<Val, Stop>
+        ensures { RunsNative self.now native (trees_of (map named arguments.now)) (view value.now) result }
+    {
+        match arguments {
+            [] => answer(call(self.alloc, native, value, &[])),
+            [argument] => {
+                let only = self.get(argument, value)?;
+                answer(call(self.alloc, native, value, &[only]))
+            }
+            _ => Err(Stop::Unknown),
+        }
+    }
+
+    /// `a(f; g)`: a call of a function, of a filter that was passed, or of a name of the language.
+    #[cycle(single)]
+    #[inline(never)]
+    pub(crate) fn change_call(
+        &self,
+        name: &Name,
+        arguments: &'s Vec<Tree>,
+        value: &mut Val,
+    ) -> Result<(), Stop>
+        ensures runs { ChangesTo self.now (form.call (name_of name.now) (trees_of (map named arguments.now.items))) (view value.old) (view value.new) result }
+        ensures keeps { Keeps result (view value.old) (view value.new) }
+    {
+        let count = arguments.len();
+        match callee_of(self.scope, name, count) {
+            Found::Function(function, own) => {
+                let scope = scope_of_call(&own, &*function, &*arguments, &*self.scope);
+                (&*self).change_body(&function.body, &scope, value)
+            }
+            Found::Closure(body, own) => self.change_body(body, &own, value),
+            Found::Nothing => {
+                let builtin = builtin_named(name.text.as_str(), count);
+                self.change_builtin(builtin, arguments.as_slice(), value)
+            }
+        }
+    }
+
+    /// A call of the prelude's own function.
+    #[cycle(single)]
+    #[inline(never)]
+    pub(crate) fn change_prelude_call(
+        &self,
+        name: &Name,
+        arguments: &'s Vec<Tree>,
+        value: &mut Val,
+    ) -> Result<(), Stop>
+        ensures runs { ChangesTo self.now (form.prelude_call (name_of name.now) (trees_of (map named arguments.now.items))) (view value.old) (view value.new) result }
+        ensures keeps { Keeps result (view value.old) (view value.new) }
+    {
+        let count = arguments.len();
+        match prelude_of(self.scope, name, count) {
+            Found::Function(function, own) => {
+                let scope = scope_of_call(&own, &*function, &*arguments, &*self.scope);
+                (&*self).change_body(&function.body, &scope, value)
+            }
+            _ => Err(Stop::Unknown),
+        }
+    }
+
+    /// Runs a body in its own scope, with a call depth that is smaller by one.
+    #[cycle(single)]
+    pub(crate) fn change_body(
+        &self,
+        body: &'s Tree,
+        own: &Scope<'s>,
+        value: &mut Val,
+    ) -> Result<(), Stop>
+        ensures runs { ChangesBelow self.now own.now (named body.now) (view value.old) (view value.new) result }
+        ensures keeps { Keeps result (view value.old) (view value.new) }
+    {
+        if self.depth == 0 {
+            return Err(Stop::Unknown);
+        }
+        let inside = Context {
+            scope: &*own,
+            depth: self.depth - 1,
+            ..*self
+        };
+        inside.change(&*body, value)
+    }
+
+    /// A name of the language whose answer replaces the value. `setpath` and `delpaths` would copy a value that is kept, so they
+    /// are not run at once on one.
+    #[cycle(single)]
+    pub(crate) fn change_builtin(
+        &self,
+        builtin: Builtin,
+        arguments: &'s [Tree],
+        value: &mut Val,
+    ) -> Result<(), Stop>
+        ensures runs { ChangesByBuiltin self.now (meaning_of builtin) (trees_of (map named arguments.now)) (view value.old) (view value.new) result }
+        ensures keeps { Keeps result (view value.old) (view value.new) }
+    {
+        match builtin {
+            Builtin::NoOutputs => Err(Stop::Nothing),
+            Builtin::Native(Native::SetPath) if self.kept => Err(Stop::Unknown),
+            Builtin::Native(Native::DelPaths) if self.kept => Err(Stop::Unknown),
+            Builtin::Native(native) => self.change_native(native, arguments, value),
+            _ => Err(Stop::Unknown),
+        }
+    }
+
+    // A native with at most two arguments.
+    #[cycle(single)]
+    #[inline(never)]
+    fn change_native(
+        &self,
+        native: Native,
+        arguments: &'s [Tree],
+        value: &mut Val,
+    ) -> Result<(), Stop>
+        ensures runs { ChangesByNative self.now native (trees_of (map named arguments.now)) (view value.old) (view value.new) result }
+        ensures keeps { Keeps result (view value.old) (view value.new) }
+    {
+        match arguments {
+            [] => call_on(self.alloc, native, value, &[]),
+            [argument] => {
+                let only = self.get(argument, value)?;
+                call_on(self.alloc, native, value, &[only])
+            }
+            [first, second] => {
+                let one = self.get(first, value)?;
+                let other = self.get(second, value)?;
+                call_on(self.alloc, native, value, &[one, other])
+            }
+            _ => Err(Stop::Unknown),
+        }
+    }
 }
 
-// The same with the first arguments bound.
-#[cycle(single)]
-#[inline(always)]
-fn get_bound<'s>(
-    alloc: Global,
-    nodes: &Nodes<'s>,
-    parameters: &'s [String],
-    arguments: &'s [Tree],
-    body: &'s Tree,
-    own: &Scope<'s>,
-    context: &Context<'s>,
-    value: &Val,
-) -> Result<Val, Stop>
-    requires own { ScopeFits (count_of nodes.now) own.now }
-    requires caller { ScopeFits (count_of nodes.now) context.now.scope.now }
-    ensures { RunsFunction nodes.now context.now (map text_of parameters.now) (trees_of (map named arguments.now)) (named body.now) own.now (view value.now) result }
+/// The scope of a function's body, in which the parameters are bound to the arguments of a call. Without parameters it is the
+/// function's own.
+pub(crate) fn scope_of_call<'s>(
+    own: &'s Scope<'s>,
+    function: &'s Function<Tree>,
+    arguments: &'s Vec<Tree>,
+    caller: &'s Scope<'s>,
+) -> Scope<'s>
+    ensures { (inputs : Run Value) → scope_env inputs result ≡ with_arguments (map text_of function.now.parameters.items) (trees_of (map named arguments.now.items)) (scope_env inputs caller.now) (scope_env inputs own.now) }
 {
-    if context.fuel == 0 {
-        return Err(Stop::Unknown);
+    if function.parameters.is_empty() {
+        *own
+    } else {
+        Scope::Call(own, function, arguments, caller)
     }
-    let inside = Context {
-        scope: context.scope,
-        depth: context.depth,
-        fuel: context.fuel - 1,
-    };
-    get_function(
-        alloc, nodes, parameters, arguments, body, own, &inside, value,
-    )
 }
 
-// Runs a body in its own scope, with a call depth that is smaller by one.
-#[cycle(single)]
-fn get_body<'s>(
+/// The answer of a native replaces the value. `setpath` and `delpaths` change a value that is not shared in place.
+pub(crate) fn call_on(
     alloc: Global,
-    nodes: &Nodes<'s>,
-    body: &'s Tree,
-    own: &Scope<'s>,
-    context: &Context<'s>,
-    value: &Val,
-) -> Result<Val, Stop>
-    requires { ScopeFits (count_of nodes.now) own.now }
-    ensures { RunsBelow nodes.now own.now context.now.depth (named body.now) (view value.now) result }
+    native: Native,
+    value: &mut Val,
+    arguments: &[Val],
+) -> Result<(), Stop>
+    ensures runs { Changed result (view value.new) (plain_native native (view value.old) (map view arguments.now)) }
+    ensures keeps { (v : Value) → Keeps result v (view value.new) }
 {
-    if context.depth == 0 {
-        return Err(Stop::Unknown);
+    let taken = replace(value, Val::Null);
+    match call_in_place(alloc, native, taken, arguments) {
+        Ok(found) => {
+            *value = found;
+            Ok(())
+        }
+        Err(Fail::Raised(error)) => Err(Stop::Raised(error)),
+        Err(Fail::NoMemory) => Err(Stop::NoMemory),
     }
-    let inside = Context {
-        scope: &*own,
-        depth: context.depth - 1,
-        fuel: context.fuel,
-    };
-    get(alloc, &*nodes, &*body, &inside, value)
 }
