@@ -4,6 +4,14 @@ use Rattle.std.specs.Map.{values_of}
 use denote.Param.Weighed.{most}
 use Rattle.jv_data.proofs.values.Val.TheLaws.{the_size}
 use Rattle.jv_data.proofs.Views.{Entry}
+use Rattle.jv_data.specs.declared.values.Val.{Val}
+
+abbrev pub depth_of_all : List Val → ℕ
+depth_of_all vs = most the_size vs
+
+pub depth_of_all-last : (vs : List Val) (v : Val) → depth_of_all (vs ++ v ∷ []) ≡ max (depth_of_all vs) (the_size v)
+depth_of_all-last [] v = omega arith
+depth_of_all-last (w ∷ vs) v = let h = depth_of_all-last vs v in omega arith
 
 -- the depth of the deepest of the values
 abbrev pub depth_under : List Entry → ℕ

@@ -1,8 +1,10 @@
 pub mod shared
 pub mod Views
 pub mod Utf8
+pub mod Names
 pub mod Shares
 pub mod Places
+pub mod Members
 pub mod Messages
 pub mod Depths
 pub mod Pending

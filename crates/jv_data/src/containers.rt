@@ -1,8 +1,15 @@
 // Strings, arrays and objects that several values share. A change of a shared one copies one level first.
 mod arrays;
+mod iterating;
+mod members;
+mod names;
 mod objects;
+mod sharing;
 mod texts;
 
 pub use arrays::Array;
+pub use iterating::Iter;
+pub(crate) use members::Members;
 pub use objects::Object;
+pub use sharing::KnownNames;
 pub use texts::SharedText;

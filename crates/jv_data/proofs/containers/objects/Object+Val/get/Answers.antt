@@ -5,4 +5,4 @@ use Rattle.jv_data.specs.View.{view}
 use Rattle.jv_data.proofs.containers.objects.Object+Val.get.Goals as goal
 
 pub returns : goal.returns
-returns c = view_of_copied c.get.result ∙ ap (option_map view) (rw c.deref.ensures at c.get.ensures.value) ∙ member_found c.args.key.now c.utf8.key (entries_in c.args.self.now)
+returns c = view_of_copied c.get.result ∙ ap (option_map view) (rw c.deref.ensures at c.get.ensures) ∙ member_found c.args.key.now c.utf8.key (entries_in c.args.self.now)
