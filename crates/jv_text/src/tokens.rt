@@ -4,7 +4,8 @@ ghost use Rattle.serde_json.specs.Find.{as_i64};
 ghost use Rattle.serde_json.specs.Read.{number_of, number_from};
 ghost use Rattle.json.specs.Json.{value, items, members};
 ghost use Rattle.jv_meaning.specs.Value.{Value};
-ghost use Rattle.jv_data.specs.View.{view, items_view, members_view};
+ghost use Rattle.jv_data.specs.Held.{members_in};
+ghost use Rattle.jv_data.specs.View.{view, items_view};
 ghost use Rattle.jv_cut.specs.declared.nesting.Quote.TheVariants.{Outside};
 ghost use Rattle.jv_text.specs.Numbers.{run_text, whole_numbers};
 ghost use Rattle.jv_text.specs.Plain.{plain_value};
@@ -15,9 +16,8 @@ use crate::numbers::{has_minus, is_printed, short_number};
 use crate::reading::Unread;
 use fast_float::Numeral;
 use json::{Reader, Scratch, Token};
-use jv_data::{Array, Object, Val};
+use jv_data::{Array, KnownNames, Object, Val};
 use std::alloc::Global;
-use std::collections::BTreeMap;
 use std::str;
 
 // How many arrays and objects may be nested.
@@ -55,7 +55,8 @@ fn read_all(alloc: Global, text: &str, scratch: &mut Scratch) -> Result<Val, Unr
     ensures plain { OnOk result (whole_numbers Outside [] text.now ≡ Some text.now) }
 {
     let mut reader = Reader::new(text, scratch)?;
-    let value = read_value(alloc, &mut reader, MAX_NESTING)?;
+    let mut known = KnownNames::new(alloc);
+    let value = read_value(alloc, &mut reader, &mut known, MAX_NESTING)?;
     if reader.next().is_some() {
         return Err(Unread::NoValue);
     }
@@ -65,7 +66,12 @@ fn read_all(alloc: Global, text: &str, scratch: &mut Scratch) -> Result<Val, Unr
 // Inlined into the loops over items and members, so that only an array or an object costs a call.
 #[cycle(taking)]
 #[inline(always)]
-fn read_value(alloc: Global, reader: &mut Reader<'_>, depth: usize) -> Result<Val, Unread>
+fn read_value(
+    alloc: Global,
+    reader: &mut Reader<'_>,
+    known: &mut KnownNames,
+    depth: usize,
+) -> Result<Val, Unread>
     ensures ok { IfOk result (λ v. IsValueRead (value depth reader.old) (view v) reader.new) }
     ensures shorter { OnOk result (length reader.new < length reader.old) }
     ensures plain { OnOk result (KeepsPlain reader.old reader.new) }
@@ -80,12 +86,12 @@ fn read_value(alloc: Global, reader: &mut Reader<'_>, depth: usize) -> Result<Va
         },
         Token::String(text) => Ok(Val::from_text(alloc, text)?),
         Token::BeginArray if depth > 0 => {
-            let items = read_items(alloc, reader, depth - 1)?;
+            let items = read_items(alloc, reader, known, depth - 1)?;
             Ok(Val::List(Array::from_vec(alloc, items)?))
         }
         Token::BeginObject if depth > 0 => {
-            let members = read_members(alloc, reader, depth - 1)?;
-            Ok(Val::Table(Object::from_map(alloc, members)?))
+            let members = read_members(alloc, reader, known, depth - 1)?;
+            Ok(Val::Table(members))
         }
         _ => Err(Unread::NoValue),
     }
@@ -94,36 +100,43 @@ fn read_value(alloc: Global, reader: &mut Reader<'_>, depth: usize) -> Result<Va
 // The items after the bracket that opens an array.
 #[cycle(taking)]
 #[inline(never)]
-fn read_items(alloc: Global, reader: &mut Reader<'_>, depth: usize) -> Result<Vec<Val>, Unread>
+fn read_items(
+    alloc: Global,
+    reader: &mut Reader<'_>,
+    known: &mut KnownNames,
+    depth: usize,
+) -> Result<Vec<Val>, Unread>
     ensures ok { IfOk result (λ v. AreItemsRead (items (value depth) (length reader.old) reader.old) (items_view v.items) reader.new) }
     ensures shorter { OnOk result (length reader.new < length reader.old) }
     ensures plain { OnOk result (KeepsPlain reader.old reader.new) }
 {
     let mut found = Vec::new(alloc);
     'items: while !reader.take_end_array() {
-        found.push(read_value(alloc, reader, depth)?)?;
+        found.push(read_value(alloc, reader, known, depth)?)?;
     }
     Ok(found)
 }
 
-// The members after the brace that opens an object.
+// The members after the brace that opens an object. Objects of one text share their lists of names.
 #[cycle(taking)]
 #[inline(never)]
 fn read_members(
     alloc: Global,
     reader: &mut Reader<'_>,
+    known: &mut KnownNames,
     depth: usize,
-) -> Result<BTreeMap<String, Val>, Unread>
-    ensures ok { IfOk result (λ m. AreMembersRead (members (value depth) (length reader.old) reader.old) (members_view m.entries) reader.new) }
+) -> Result<Object<Val>, Unread>
+    ensures ok { IfOk result (λ o. AreMembersRead (members (value depth) (length reader.old) reader.old) (members_in o) reader.new) }
     ensures shorter { OnOk result (length reader.new < length reader.old) }
     ensures plain { OnOk result (KeepsPlain reader.old reader.new) }
 {
-    let mut found = BTreeMap::new(alloc);
+    let mut found = Object::new(alloc)?;
     'members: while let Some(name) = reader.next_key()? {
         let key = String::from_str(alloc, name)?;
-        let member = read_value(alloc, reader, depth)?;
-        drop(found.insert(key, member)?);
+        let member = read_value(alloc, reader, known, depth)?;
+        found.insert(key, member)?;
     }
+    found.share_names(known);
     Ok(found)
 }
 
