@@ -1,5 +1,5 @@
 use Rattle.jv_data.proofs.shared.Levels.{view-Table}
 use Rattle.jv_data.proofs.values.Val.into_table.Goals as goal
 
-pub returns-in-Table : goal.returns-in-Table
-returns-in-Table c = rw c.in-Table.is (view-Table c.in-Table.members)
+pub returns : goal.returns
+returns c = rw c.in-Table.is (view-Table c.in-Table.members)
