@@ -5,6 +5,7 @@ pub mod Names
 pub mod Shares
 pub mod Places
 pub mod Members
+pub mod Drafts
 pub mod Messages
 pub mod Depths
 pub mod Pending

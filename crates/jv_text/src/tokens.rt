@@ -16,7 +16,7 @@ use crate::numbers::{has_minus, is_printed, short_number};
 use crate::reading::Unread;
 use fast_float::Numeral;
 use json::{Reader, Scratch, Token};
-use jv_data::{Array, KnownNames, Object, Val};
+use jv_data::{Array, Draft, KnownNames, Object, Val};
 use std::alloc::Global;
 use std::str;
 
@@ -26,8 +26,24 @@ const MAX_NESTING: usize = 127;
 // The buffer of a text of at most this many bytes is kept for the texts after it.
 const KEPT_ROOM: usize = 1_048_576;
 
+/// What is kept from one text to the next: the buffer that each text is read in, and the names of objects.
+#[derive(Drop)]
+pub(crate) struct Buffers {
+    scratch: Scratch,
+    known: KnownNames,
+}
+
+impl Buffers {
+    pub(crate) fn new(alloc: Global) -> Buffers {
+        Buffers {
+            scratch: Scratch::new(alloc),
+            known: KnownNames::new(alloc),
+        }
+    }
+}
+
 /// The value of a text whose numbers are all in the form in which whole numbers are printed. It refuses other texts.
-pub(crate) fn read_tokens(alloc: Global, text: &[u8], scratch: &mut Scratch) -> Result<Val, Unread>
+pub(crate) fn read_tokens(alloc: Global, text: &[u8], buffers: &mut Buffers) -> Result<Val, Unread>
     ensures value { IfOk result (λ v. plain_value text.now ≡ Some (view v)) }
     ensures plain { OnOk result (whole_numbers Outside [] text.now ≡ Some text.now) }
 {
@@ -35,28 +51,32 @@ pub(crate) fn read_tokens(alloc: Global, text: &[u8], scratch: &mut Scratch) -> 
         return Err(Unread::NoValue);
     };
     if text.len() > KEPT_ROOM {
-        read_large(alloc, text)
+        read_large(alloc, text, &mut buffers.known)
     } else {
-        read_all(alloc, text, scratch)
+        read_all(alloc, text, &mut buffers.scratch, &mut buffers.known)
     }
 }
 
 // A function of its own, since a buffer is 16 KB, which each call of a function with one among its locals clears.
 #[inline(never)]
-fn read_large(alloc: Global, text: &str) -> Result<Val, Unread>
+fn read_large(alloc: Global, text: &str, known: &mut KnownNames) -> Result<Val, Unread>
     ensures value { IfOk result (λ v. plain_value text.now ≡ Some (view v)) }
     ensures plain { OnOk result (whole_numbers Outside [] text.now ≡ Some text.now) }
 {
-    read_all(alloc, text, &mut Scratch::new(alloc))
+    read_all(alloc, text, &mut Scratch::new(alloc), known)
 }
 
-fn read_all(alloc: Global, text: &str, scratch: &mut Scratch) -> Result<Val, Unread>
+fn read_all(
+    alloc: Global,
+    text: &str,
+    scratch: &mut Scratch,
+    known: &mut KnownNames,
+) -> Result<Val, Unread>
     ensures value { IfOk result (λ v. plain_value text.now ≡ Some (view v)) }
     ensures plain { OnOk result (whole_numbers Outside [] text.now ≡ Some text.now) }
 {
     let mut reader = Reader::new(text, scratch)?;
-    let mut known = KnownNames::new(alloc);
-    let value = read_value(alloc, &mut reader, &mut known, MAX_NESTING)?;
+    let value = read_value(alloc, &mut reader, known, MAX_NESTING)?;
     if reader.next().is_some() {
         return Err(Unread::NoValue);
     }
@@ -130,14 +150,13 @@ fn read_members(
     ensures shorter { OnOk result (length reader.new < length reader.old) }
     ensures plain { OnOk result (KeepsPlain reader.old reader.new) }
 {
-    let mut found = Object::new(alloc)?;
+    let mut found = Draft::new();
     'members: while let Some(name) = reader.next_key()? {
-        let key = String::from_str(alloc, name)?;
+        let place = found.place(alloc, name, known)?;
         let member = read_value(alloc, reader, known, depth)?;
-        found.insert(key, member)?;
+        found.put(place, member)?;
     }
-    found.share_names(known);
-    Ok(found)
+    Ok(found.finish(alloc, known)?)
 }
 
 // The value of a number in the form in which whole numbers are printed.

@@ -1,5 +1,5 @@
 // The names of an object's members, in order. Objects with the same names may share them.
-ghost use Rattle.std.specs.Prelude.{◌≡◌, ◌≤◌, ◌<◌, IfOk, MatchResult, OnErr, OnOk, length, map, string_bytes};
+ghost use Rattle.std.specs.Prelude.{◌≡◌, ◌≤◌, ◌<◌, IfOk, IsTrue, MatchResult, OnErr, OnOk, length, map, string_bytes};
 ghost use Rattle.std.specs.Cmp.Lexicographic.{slice_cmp};
 ghost use Rattle.std.specs.List.{insert, remove};
 ghost use Rattle.std.specs.List.Sorted.{IsStrictlySortedBy, IsStrictlySortedBy-prop};
@@ -37,6 +37,17 @@ impl Names {
         ensures rising { IsStrictlySortedBy (slice_cmp nat_cmp) (map string_bytes self.now.texts.items) }
     {
         find(name, self.texts.as_slice())
+    }
+
+    // Whether the name is the one at the index.
+    #[inline(always)]
+    pub(crate) fn is_at(&self, index: usize, name: &str) -> bool
+        ensures { IsTrue result → IsAt name.now (map string_bytes self.now.texts.items) index }
+    {
+        match self.texts.get(index) {
+            Some(text) => text.as_str() == name,
+            None => false,
+        }
     }
 
     pub(crate) fn insert(&mut self, index: usize, name: String) -> Result<(), AllocError>

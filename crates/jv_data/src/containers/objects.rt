@@ -1,6 +1,7 @@
 // Objects that several values share.
 ghost use Rattle.std.specs.Prelude.{◌≡◌, IfOk, IfSome, OnErr, OnOk, String, length, option_map};
 ghost use Rattle.std.specs.declared.alloc.Global.{Global};
+ghost use Rattle.std.specs.List.{zip};
 ghost use Rattle.std.specs.Str.{chars};
 ghost use Rattle.std.specs.Map.Iter.{ShowsInOrder, ShowsValuesInOrder, deref_pair};
 ghost use Rattle.jv_data.specs.Held.{members_in};
@@ -12,6 +13,7 @@ ghost use Rattle.jv_data.specs.View.{view, members_view};
 
 use super::iterating::Iter;
 use super::members::Members;
+use super::names::Names;
 use super::sharing::KnownNames;
 use crate::Val;
 use std::alloc::{AllocError, Global};
@@ -40,6 +42,21 @@ impl<T: Drop> Object<T> {
     {
         Ok(Object {
             members: self.members.clone()?,
+        })
+    }
+}
+
+impl<T: Drop> Object<T> {
+    // The members whose names and values are at the same indices of the lists, with reference count 1.
+    pub(crate) fn from_lists(
+        alloc: Global,
+        names: Rc<Names>,
+        values: Vec<T>,
+    ) -> Result<Object<T>, AllocError>
+        ensures { IfOk result (λ o. entries_in o ≡ zip names.value.texts.items values.items) }
+    {
+        Ok(Object {
+            members: Rc::new(alloc, Members::Few(names, values))?,
         })
     }
 }

@@ -1,8 +1,10 @@
 // Lists of names that several objects share.
-ghost use Rattle.std.specs.Prelude.{◌≡◌, IfSome, IsTrue, map, string_bytes};
+ghost use Rattle.std.specs.Prelude.{◌≡◌, [], IfOk, IfSome, IsTrue, map, string_bytes};
+ghost use Rattle.jv_data.specs.Drafts.{held_in, IsIn};
 
 use super::names::Names;
-use std::alloc::Global;
+use super::slots::Slots;
+use std::alloc::{AllocError, Global};
 use std::rc::Rc;
 
 // How many lists are known at a time.
@@ -11,8 +13,16 @@ const KNOWN: usize = 8;
 /// The names of objects that were made before. Other objects with the same names share them.
 #[derive(Drop)]
 pub struct KnownNames {
-    lists: Vec<Rc<Names>>,
+    lists: Vec<Known>,
     oldest: usize,
+}
+
+// A list of names, and the index of each name in the order in which the names came in a text. The indices only tell where a
+// name may be.
+#[derive(Drop)]
+struct Known {
+    names: Rc<Names>,
+    order: Vec<usize>,
 }
 
 impl KnownNames {
@@ -34,32 +44,111 @@ impl KnownNames {
                 Err(_) => None,
             },
             None => {
-                if let Ok(list) = names.clone() {
-                    self.add(list);
-                }
+                let _ = self.add(names);
                 None
             }
         }
     }
 
     // A list that finds no memory is not added.
-    fn add(&mut self, list: Rc<Names>) {
+    fn add(&mut self, names: &Rc<Names>) -> Result<(), AllocError> {
+        let alloc = *self.lists.allocator();
+        let len = names.as_slice().len();
+        let mut order = Vec::with_capacity(alloc, len)?;
+        for index in 0..len {
+            order.push(index)?;
+        }
+        let known = Known {
+            names: names.clone()?,
+            order,
+        };
         if self.lists.len() < KNOWN {
-            let _ = self.lists.push(list);
+            self.lists.push(known)?;
         } else {
             let index = self.oldest % KNOWN;
-            self.lists[index] = list;
+            self.lists[index] = known;
             self.oldest = index + 1;
+        }
+        Ok(())
+    }
+
+    // No values for the names of a list that has this name, and the index of the name.
+    pub(crate) fn begin(
+        &mut self,
+        alloc: Global,
+        name: &str,
+    ) -> Result<Option<(Slots, usize)>, AllocError>
+        ensures { IfOk result (λ found. IfSome found (λ p. (held_in p.0 ≡ []) × IsIn p.0 p.1 name.now)) }
+    {
+        match self.list_with(name) {
+            None => Ok(None),
+            Some((names, list)) => {
+                let mut slots = Slots::new(alloc, names.clone()?, list)?;
+                match slots.find(name, self) {
+                    Some(index) => Ok(Some((slots, index))),
+                    None => Ok(None),
+                }
+            }
+        }
+    }
+
+    // A list that had this name first in a text, or else one that has it, and its index.
+    fn list_with(&self, name: &str) -> Option<(&Rc<Names>, usize)> {
+        for index in 0..self.lists.len() {
+            if let Some(known) = self.lists.get(index) {
+                if known.begins_with(name) {
+                    return Some((&known.names, index));
+                }
+            }
+        }
+        for index in 0..self.lists.len() {
+            if let Some(known) = self.lists.get(index) {
+                if known.names.find(name).is_ok() {
+                    return Some((&known.names, index));
+                }
+            }
+        }
+        None
+    }
+
+    // Where the name may be that comes after so many others.
+    #[inline(always)]
+    pub(crate) fn guess(&self, list: usize, count: usize) -> usize {
+        match self.lists.get(list) {
+            None => 0,
+            Some(known) => match known.order.get(count) {
+                None => 0,
+                Some(index) => *index,
+            },
+        }
+    }
+
+    // The name that came after so many others was at this index.
+    pub(crate) fn learn(&mut self, list: usize, count: usize, index: usize) {
+        if let Some(known) = self.lists.get_mut(list) {
+            if let Some(place) = known.order.get_mut(count) {
+                *place = index;
+            }
         }
     }
 }
 
-fn find<'a>(lists: &'a [Rc<Names>], names: &[String]) -> Option<&'a Rc<Names>>
+impl Known {
+    // Whether a text had this name first.
+    fn begins_with(&self, name: &str) -> bool {
+        match self.order.first() {
+            Some(index) => self.names.is_at(*index, name),
+            None => false,
+        }
+    }
+}
+
+fn find<'a>(lists: &'a [Known], names: &[String]) -> Option<&'a Rc<Names>>
     ensures { IfSome result (λ list. map string_bytes list.now.value.texts.items ≡ map string_bytes names.now) }
 {
-    for list in lists {
-        if are_same(list.as_slice(), names) {
-            return Some(list);
+    for known in lists {
+        if are_same(known.names.as_slice(), names) {
+            return Some(&known.names);
         }
     }
     None
