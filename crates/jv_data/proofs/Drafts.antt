@@ -10,7 +10,7 @@ use Rattle.std.specs.Str.{chars, IsUtf8}
 use Rattle.jv_data.proofs.Members.{put_front}
 use Rattle.jv_data.proofs.Names.{AreRising, Texts}
 use Rattle.jv_data.proofs.Utf8.{chars-cmp, utf8-cmp}
-use Rattle.jv_data.specs.Drafts.{present, values_there, AreSome}
+use Rattle.jv_data.specs.Drafts.{present, values_there, AreNone, AreSome}
 use Rattle.jv_data.specs.View.{view, members_view}
 use Rattle.jv_data.specs.declared.values.Val.{Val}
 use Rattle.jv_data.specs.private.Names.{IsAt}
@@ -22,11 +22,6 @@ abbrev pub Slots : Type 0
 Slots = List (Option Val)
 
 -- ---- no values
-
-abbrev pub AreNone : Slots → Type 0
-AreNone [] = Unit {0}
-AreNone (None ∷ slots) = AreNone slots
-AreNone (Some v ∷ slots) = ⊥
 
 pub none_more : (slots : Slots) → AreNone slots → AreNone (slots ++ None ∷ [])
 none_more [] h = tt
@@ -83,16 +78,18 @@ present_before ns i n m v slots h b is same =
     let rising : AreRising (map string_bytes (n ∷ rest)) = subst (λ ms. AreRising (map string_bytes ms)) split (rising_left ns i h) in
     rw (split, same) (put_front (text_of n) (view v) (members_view (present rest slots)) (first_before n rest slots rising))
 
-pub present_none_before : (ns : Texts) (i : ℕ) (slots : Slots) → i < length ns → present (drop i ns) (None ∷ slots) ≡ present (drop (i + 1) ns) slots
+pub present_none_before : (ns : Texts) (i : ℕ) (slots : Slots) → i < length ns → present (drop (i + 1) ns) slots ≡ present (drop i ns) (None ∷ slots)
 present_none_before [] i slots b = absurd (omega arith)
-present_none_before (n ∷ ns) zero slots b = refl
-present_none_before (n ∷ ns) (suc i) slots b = present_none_before ns i slots (omega arith)
+present_none_before (n ∷ ns) i slots b = sym (ap (λ ms. present ms (None ∷ slots)) (drop_more (n ∷ ns) i n b))
 
-pub present_past : (ns : Texts) (i : ℕ) (slots more : Slots) → length ns ≤ i → present (drop i ns) slots ≡ present (drop (i + 1) ns) more
-present_past [] zero slots more b = refl
-present_past [] (suc i) slots more b = refl
-present_past (n ∷ ns) zero slots more b = absurd (omega arith)
-present_past (n ∷ ns) (suc i) slots more b = present_past ns i slots more (omega arith)
+drop_past : (ns : Texts) (i : ℕ) → length ns ≤ i → drop i ns ≡ []
+drop_past [] zero b = refl
+drop_past [] (suc i) b = refl
+drop_past (n ∷ ns) zero b = absurd (omega arith)
+drop_past (n ∷ ns) (suc i) b = drop_past ns i (omega arith)
+
+pub present_past : (ns : Texts) (i : ℕ) (slots more : Slots) → length ns ≤ i → present (drop (i + 1) ns) slots ≡ present (drop i ns) more
+present_past ns i slots more b = rw (drop_past ns i b, drop_past ns (i + 1) (omega arith)) refl
 
 -- ---- a value for each name
 

@@ -31,7 +31,7 @@ pub same_names : (ms ns : Texts) (vs : List Val) → map string_bytes ms ≡ map
 same_names ms ns vs e = same_parts ms ns vs vs e refl
 
 -- a key that comes before all others
-put_front : (k : List ℕ) (v : Value) (ms : Members) → IsBefore k ms → put k v ms ≡ member k v ms
+pub put_front : (k : List ℕ) (v : Value) (ms : Members) → IsBefore k ms → put k v ms ≡ member k v ms
 put_front k v no_members h = refl
 put_front k v (member l w ms) h = rw h.0 refl
 

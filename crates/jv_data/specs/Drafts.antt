@@ -20,6 +20,11 @@ present (n ∷ ns) [] = []
 present (n ∷ ns) (None ∷ slots) = present ns slots
 present (n ∷ ns) (Some v ∷ slots) = (n, v) ∷ present ns slots
 
+abbrev pub AreNone : {X : Type 0} → List (Option X) → Type 0
+AreNone [] = Unit {0}
+AreNone (None ∷ slots) = AreNone slots
+AreNone (Some v ∷ slots) = ⊥
+
 abbrev pub AreSome : {X : Type 0} → List (Option X) → Type 0
 AreSome [] = Unit {0}
 AreSome (None ∷ slots) = ⊥

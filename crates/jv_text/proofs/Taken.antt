@@ -1,8 +1,7 @@
 -- The grammar's loops, one turn at a time, if each text that was read has a value.
-use Rattle.std.proofs.Common.{◌≡◌, ℕ, ℤ, ◌-◌, ◌<◌, ◌≤◌, Bool, List, [], ◌∷◌, ◌++◌, length, Option, Some, None, option_map, String, Global, string_bytes, string_cmp, Ordering, Less, Equal, Greater, refl, sym, ap, subst, ◌∙◌}
+use Rattle.std.proofs.Common.{◌≡◌, ℕ, ℤ, ◌-◌, ◌<◌, ◌≤◌, Bool, List, [], ◌∷◌, ◌++◌, length, Option, Some, None, option_map, Ordering, Less, Equal, Greater, refl, sym, ap, subst, ◌∙◌}
 use Rattle.std.specs.Ordering.{match_ordering}
 use Rattle.std.specs.Prelude.{option_and_then}
-use Rattle.std.proofs.lemmas.Str.{IsUtf8-string_bytes}
 use Rattle.std.specs.Str.{chars, IsUtf8}
 use Rattle.json.specs.Lex.{tokens}
 use Rattle.json.specs.Token.{Token}
@@ -15,7 +14,6 @@ use Rattle.serde_json.specs.Find.{as_i64}
 use Rattle.serde_json.specs.Read.{of_json, of_items, of_members, number_of, converted}
 use Rattle.jv_text.proofs.Turns.{converted-array, converted-object, item_read, items_over, member_read, members_over, none_before, whole_read}
 use Rattle.jv_meaning.specs.Members.{put as put_member}
-use Rattle.jv_meaning.specs.Text.{text_of}
 use Rattle.jv_meaning.specs.Value.{Value, null, boolean, number, string, array, object, Items, Members, no_members, member, text_cmp}
 use Rattle.jv_data.proofs.shared.Texts.{utf8-cmp}
 use Rattle.jv_data.specs.View.{view, items_view}
@@ -143,13 +141,13 @@ mean_by Less a b c es fs gs h i j = h
 mean_by Equal a b c es fs gs h i j = i
 mean_by Greater a b c es fs gs h i j = j
 
-mean_put : (ms : json_data.Members) (ns : Members) (key : String Global) (d : Data) (v : Value) → MembersMean ms ns → value_of d ≡ Some v → MembersMean (put (string_bytes key) d ms) (put_member (text_of key) v ns)
-mean_put json_data.no_members no_members key d v h e = (IsUtf8-string_bytes key, refl, e, tt)
-mean_put json_data.no_members (member l w ns) key d v h e = absurd h
-mean_put (json_data.member k c ms) no_members key d v h e = absurd h
-mean_put (json_data.member k c ms) (member l w ns) key d v h e =
-    rw (h.1, utf8-cmp (string_bytes key) k (IsUtf8-string_bytes key) h.0)
-    (mean_by (text_cmp (text_of key) (chars k)) _ _ _ _ _ _ (IsUtf8-string_bytes key, refl, e, (h.0, refl, h.2, h.3)) (h.0, refl, e, h.3) (h.0, refl, h.2, mean_put ms ns key d v h.3 e))
+mean_put : (ms : json_data.Members) (ns : Members) (key : List ℕ) (u : IsUtf8 key) (d : Data) (v : Value) → MembersMean ms ns → value_of d ≡ Some v → MembersMean (put key d ms) (put_member (chars key) v ns)
+mean_put json_data.no_members no_members key u d v h e = (u, refl, e, tt)
+mean_put json_data.no_members (member l w ns) key u d v h e = absurd h
+mean_put (json_data.member k c ms) no_members key u d v h e = absurd h
+mean_put (json_data.member k c ms) (member l w ns) key u d v h e =
+    rw (h.1, utf8-cmp key k u h.0)
+    (mean_by (text_cmp (chars key) (chars k)) _ _ _ _ _ _ (u, refl, e, (h.0, refl, h.2, h.3)) (h.0, refl, e, h.3) (h.0, refl, h.2, mean_put ms ns key u d v h.3 e))
 
 all_members_mean : (ms : json_data.Members) (ns : Members) → MembersMean ms ns → read_members ms ≡ Some ns
 all_members_mean json_data.no_members no_members h = refl
@@ -166,13 +164,13 @@ pub record MembersGoOn (whole : Option (json.Members × List Token)) (ns : Membe
 pub members_begin : (whole : Option (json.Members × List Token)) (ns : Members) → ns ≡ no_members → MembersGoOn whole ns whole
 members_begin whole ns e = rw e (record { tree = json_data.no_members; mean = tt; goes = refl })
 
-pub members_turn : (p : Parse json.Json) (n : ℕ) (k : List ℕ) (ts s r : List Token) (whole : Option (json.Members × List Token)) (ms ns : Members) (key : String Global) (v : Value) → MembersGoOn whole ms (json.members p n ts) → 0 < n
-    → read_key ts ≡ Some (Some k, s) → string_bytes key ≡ k → IsValueRead (p s) v r → ns ≡ put_member (text_of key) v ms → MembersGoOn whole ns (json.members p (n - 1) r)
-members_turn p n k ts s r whole ms ns key v g some named copied read e =
+pub members_turn : (p : Parse json.Json) (n : ℕ) (k : List ℕ) (u : IsUtf8 k) (ts s r : List Token) (whole : Option (json.Members × List Token)) (ms ns : Members) (v : Value) → MembersGoOn whole ms (json.members p n ts) → 0 < n
+    → read_key ts ≡ Some (Some k, s) → IsValueRead (p s) v r → ns ≡ put_member (chars k) v ms → MembersGoOn whole ns (json.members p (n - 1) r)
+members_turn p n k u ts s r whole ms ns v g some named read e =
     rw e (record {
-      tree = put (string_bytes key) read.tree g.tree;
-      mean = mean_put g.tree ms key read.tree v g.mean read.means;
-      goes = g.goes ∙ member_read p g.tree n k ts s r read.tree some named read.reads ∙ ap (λ name. converted (λ js. of_members js (put name read.tree g.tree)) (json.members p (n - 1) r)) (sym copied);
+      tree = put k read.tree g.tree;
+      mean = mean_put g.tree ms k u read.tree v g.mean read.means;
+      goes = g.goes ∙ member_read p g.tree n k ts s r read.tree some named read.reads;
     })
 
 pub members_done : (p : Parse json.Json) (n : ℕ) (ts r : List Token) (whole : Option (json.Members × List Token)) (ns : Members) → MembersGoOn whole ns (json.members p n ts) → length ts ≤ n → read_key ts ≡ Some (None, r) → AreMembersRead whole ns r

@@ -45,7 +45,7 @@ impl Names {
         ensures { IsTrue result → IsAt name.now (map string_bytes self.now.texts.items) index }
     {
         match self.texts.get(index) {
-            Some(text) => text.as_str() == name,
+            Some(text) => are_equal(text.as_str().as_bytes(), name.as_bytes()),
             None => false,
         }
     }
@@ -75,6 +75,28 @@ impl Clone for Names {
             texts: self.texts.clone()?,
         })
     }
+}
+
+// A loop, since most names are short.
+#[inline(always)]
+fn are_equal(left: &[u8], right: &[u8]) -> bool
+    ensures { IsTrue result → left.now ≡ right.now }
+{
+    if left.len() != right.len() {
+        return false;
+    }
+    let mut others = right.iter();
+    for byte in left {
+        match others.next() {
+            None => return false,
+            Some(other) => {
+                if *byte != *other {
+                    return false;
+                }
+            }
+        }
+    }
+    others.next().is_none()
 }
 
 // By halves.

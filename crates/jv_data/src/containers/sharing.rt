@@ -1,6 +1,7 @@
 // Lists of names that several objects share.
 ghost use Rattle.std.specs.Prelude.{◌≡◌, [], IfOk, IfSome, IsTrue, map, string_bytes};
 ghost use Rattle.jv_data.specs.Drafts.{held_in, IsIn};
+ghost use Rattle.jv_data.specs.private.Names.{IsAt};
 
 use super::names::Names;
 use super::slots::Slots;
@@ -82,29 +83,31 @@ impl KnownNames {
     {
         match self.list_with(name) {
             None => Ok(None),
-            Some((names, list)) => {
-                let mut slots = Slots::new(alloc, names.clone()?, list)?;
-                match slots.find(name, self) {
-                    Some(index) => Ok(Some((slots, index))),
-                    None => Ok(None),
-                }
+            Some((names, list, index)) => {
+                let slots = Slots::new(alloc, names.clone()?, list)?;
+                self.learn(list, 0, index);
+                Ok(Some((slots, index)))
             }
         }
     }
 
-    // A list that had this name first in a text, or else one that has it, and its index.
-    fn list_with(&self, name: &str) -> Option<(&Rc<Names>, usize)> {
-        for index in 0..self.lists.len() {
-            if let Some(known) = self.lists.get(index) {
-                if known.begins_with(name) {
-                    return Some((&known.names, index));
+    // A list that had this name first in a text, or else one that has it. Its index, and that of the name in it.
+    fn list_with(&self, name: &str) -> Option<(&Rc<Names>, usize, usize)>
+        ensures { IfSome result (λ p. IsAt name.now (map string_bytes p.0.now.value.texts.items) p.2) }
+    {
+        for list in 0..self.lists.len() {
+            if let Some(known) = self.lists.get(list) {
+                if let Some(index) = known.order.first() {
+                    if known.names.is_at(*index, name) {
+                        return Some((&known.names, list, *index));
+                    }
                 }
             }
         }
-        for index in 0..self.lists.len() {
-            if let Some(known) = self.lists.get(index) {
-                if known.names.find(name).is_ok() {
-                    return Some((&known.names, index));
+        for list in 0..self.lists.len() {
+            if let Some(known) = self.lists.get(list) {
+                if let Ok(index) = known.names.find(name) {
+                    return Some((&known.names, list, index));
                 }
             }
         }
@@ -129,16 +132,6 @@ impl KnownNames {
             if let Some(place) = known.order.get_mut(count) {
                 *place = index;
             }
-        }
-    }
-}
-
-impl Known {
-    // Whether a text had this name first.
-    fn begins_with(&self, name: &str) -> bool {
-        match self.order.first() {
-            Some(index) => self.names.is_at(*index, name),
-            None => false,
         }
     }
 }

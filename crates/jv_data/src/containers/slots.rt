@@ -1,7 +1,7 @@
 // A list of names that are known, and the value of each name that has one.
 ghost use Rattle.std.specs.Prelude.{◌≡◌, ◌<◌, [], ℕ, List, IfOk, IfSome, IsTrue, length};
 ghost use Rattle.std.specs.Str.{chars, IsUtf8};
-ghost use Rattle.jv_data.specs.Drafts.{present, held_in, values_there, AreSome, IsIn};
+ghost use Rattle.jv_data.specs.Drafts.{present, held_in, values_there, AreNone, AreSome, IsIn};
 ghost use Rattle.jv_data.specs.Held.{members_in};
 ghost use Rattle.jv_data.specs.View.{view, members_view};
 ghost use Rattle.jv_meaning.specs.Members.{put};
@@ -24,20 +24,18 @@ pub(crate) struct Slots {
 }
 
 impl Slots {
-    // No values.
+    // No values, after one name was looked up.
     pub(crate) fn new(alloc: Global, names: Rc<Names>, list: usize) -> Result<Slots, AllocError>
-        ensures { IfOk result (λ s. held_in s ≡ []) }
+        ensures names { IfOk result (λ s. s.names.value ≡ names.value) }
+        ensures len { IfOk result (λ s. length s.values.items ≡ length names.value.texts.items) }
+        ensures members { IfOk result (λ s. held_in s ≡ []) }
     {
-        let len = names.as_slice().len();
-        let mut values = Vec::with_capacity(alloc, len)?;
-        for _ in 0..len {
-            values.push(None)?;
-        }
+        let values = no_values(alloc, names.as_slice().len())?;
         Ok(Slots {
             names,
             values,
             list,
-            count: 0,
+            count: 1,
         })
     }
 
@@ -104,6 +102,17 @@ impl Slots {
             Ok(object)
         }
     }
+}
+
+fn no_values(alloc: Global, len: usize) -> Result<Vec<Option<Val>>, AllocError>
+    ensures len { IfOk result (λ v. length v.items ≡ len) }
+    ensures none { IfOk result (λ v. AreNone v.items) }
+{
+    let mut values = Vec::with_capacity(alloc, len)?;
+    for _ in 0..len {
+        values.push(None)?;
+    }
+    Ok(values)
 }
 
 // An object of the names that have a value, which are taken from the last to the first.

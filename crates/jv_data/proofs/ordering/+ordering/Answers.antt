@@ -7,7 +7,8 @@ use Rattle.jv_data.specs.declared.containers.texts.SharedText.{SharedText}
 use Rattle.jv_data.specs.declared.values.Val.{Val, the_lemmas}
 use Rattle.jv_data.specs.declared.values.Val as val
 use Rattle.jv_data.proofs.Depths.{depth_under}
-use Rattle.jv_data.proofs.shared.Depths.{depth_in}
+
+use Rattle.jv_data.proofs.shared.Depths.{depth_held}
 use Rattle.jv_data.proofs.shared.Levels.{view-Table}
 use Rattle.jv_data.proofs.Utf8.{chars-cmp}
 use Rattle.jv_data.proofs.Views.{first_decides}
@@ -31,10 +32,10 @@ order_near-returns-in_default-order_keys t c =
     rw (c.in-Table-Table.is-0, c.in-Table-Table.is-1, view-Table c.in-Table-Table.xs, view-Table c.in-Table-Table.ys, ← c.order_keys.ensures)
     (first_decides c.order_keys.result _ c.in_default-order_keys.not-Equal)
 
-pub order_members-order-requires : goal.order_members-order-requires
-order_members-order-requires t c =
-    let first = ap depth_under c.in-Some.ensures.steps in
-    let within = c.loop-member.invariant.1 in
-    let held = depth_in c.args.left.now in
+pub order_members-order_near-requires : goal.order_members-order_near-requires
+order_members-order_near-requires t c =
     let measure = c.decreases in
+    let within = c.loop-member.invariant.1 in
+    let first = ap depth_under c.in-Some.ensures.steps in
+    let held = depth_held c.args.left.now.members.value in
     (omega arith, tt)
