@@ -1,5 +1,6 @@
 -- The members of a draft that has known names.
-use Rattle.std.proofs.Common.{◌≡◌, ◌∙◌, ℕ, zero, suc, ◌+◌, ◌<◌, ◌≤◌, List, [], ◌∷◌, ◌++◌, length, map, drop, get_or, set, zip, Option, Some, None, String, Global, string_bytes, Less, nat_cmp, refl, sym, ap, subst, arith}
+use Rattle.std.proofs.Common.{◌≡◌, ◌∙◌, inl, inr, ℕ, zero, suc, ◌+◌, ◌<◌, ◌≤◌, List, [], ◌∷◌, ◌++◌, length, map, drop, get_or, set, zip, Option, Some, None, String, Global, string_bytes, Less, nat_cmp, refl, sym, ap, subst, arith}
+use Rattle.std.proofs.lemmas.Bool.{cases_lt}
 use Rattle.std.proofs.lemmas.List.{drop_more}
 use Rattle.std.proofs.lemmas.Map.Lookups.{exact_bytes}
 use Rattle.std.proofs.lemmas.Str.{IsUtf8-string_bytes}
@@ -90,6 +91,14 @@ drop_past (n ∷ ns) (suc i) b = drop_past ns i (omega arith)
 
 pub present_past : (ns : Texts) (i : ℕ) (slots more : Slots) → length ns ≤ i → present (drop (i + 1) ns) slots ≡ present (drop i ns) more
 present_past ns i slots more b = rw (drop_past ns i b, drop_past ns (i + 1) (omega arith)) refl
+
+-- a name without a value
+pub present_none : (ns : Texts) (i : ℕ) (slots : Slots) → present (drop (i + 1) ns) slots ≡ present (drop i ns) (None ∷ slots)
+present_none ns i slots = elim (cases_lt i (length ns)) [ inl b ↦ present_none_before ns i slots b | inr b ↦ present_past ns i slots (None ∷ slots) b ]
+
+pub present_nil : (ns : Texts) → present {X = Val} ns [] ≡ []
+present_nil [] = refl
+present_nil (n ∷ ns) = refl
 
 -- ---- a value for each name
 
