@@ -1,7 +1,7 @@
 -- The view of a `Val` of each form, by its contents.
-use Rattle.std.proofs.Common.{◌≡◌, ℤ, Bool, List, [], ◌∷◌, map, zip, refl, ap, rules}
-use Rattle.jv_data.specs.Held.{values_in, members_in}
-use Rattle.jv_data.specs.Shared.{string_in, entries_held}
+use Rattle.std.proofs.Common.{◌≡◌, ◌∙◌, ℤ, Bool, List, [], ◌∷◌, map, zip, refl, sym, ap, rules}
+use Rattle.jv_data.specs.Held.{values_in, members_in, members_of_value}
+use Rattle.jv_data.specs.Shared.{string_in, entries_held, entries_in}
 use Rattle.jv_meaning.specs.Value.{null, boolean, number, string, array, object, items_of}
 use Rattle.jv_meaning.specs.Text.{text_of}
 use Rattle.jv_data.specs.View.{view, members_view}
@@ -37,8 +37,9 @@ view_held : (o : Object Val) (m : Members Val) → o.members.value ≡ m → vie
 view_held o (Few names values) e = search (rules, the_lemmas, e, zip-map)
 view_held o (Many entries) e = search (rules, the_lemmas, e)
 
-pub view-Table : (o : Object Val) → view (val.Table o) ≡ object (members_in o)
-view-Table o = view_held o o.members.value refl
+-- the members of an object are its entries
+pub members_held : (o : Object Val) → members_in o ≡ members_view (entries_in o)
+members_held o = ap members_of_value (view_held o o.members.value refl)
 
--- For `using`: `search` does not see by itself that the view of an object has the object's members.
-pub ruleset tables = (view-Table)
+pub view-Table : (o : Object Val) → view (val.Table o) ≡ object (members_in o)
+view-Table o = view_held o o.members.value refl ∙ ap object (sym (members_held o))
