@@ -1,10 +1,8 @@
 -- The members of an object that are held in lists of names and of values.
-use Rattle.std.proofs.Common.{◌≡◌, ◌∙◌, ◌⊎◌, inl, inr, ℕ, zero, suc, ◌+◌, ◌<◌, ◌≤◌, List, [], ◌∷◌, length, map, drop, get_or, zip, insert, set, remove, min, String, Global, string_bytes, string_cmp, refl, sym, ap, subst, arith}
+use Rattle.std.proofs.Common.{◌≡◌, ◌∙◌, ℕ, zero, suc, ◌+◌, ◌<◌, List, [], ◌∷◌, length, map, drop, get_or, zip, String, Global, string_bytes, refl, sym, ap, subst, arith}
 use Rattle.std.proofs.lemmas.List.{drop_more}
 use Rattle.std.proofs.lemmas.Slice.Zip.{length-zip, get_or-zip}
-use Rattle.std.specs.List.Sorted.{IsStrictlySortedBy}
 use Rattle.jv_data.proofs.Names.{AreRising, Texts, keys_rise}
-use Rattle.jv_data.proofs.Places.{members_view-insert_entry}
 use Rattle.jv_data.proofs.Views.{Entry, in_order}
 use Rattle.jv_meaning.specs.Members.{IsBefore, IsInOrder, put}
 use Rattle.jv_meaning.specs.Text.{text_of}

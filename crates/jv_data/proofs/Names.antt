@@ -1,12 +1,12 @@
 -- The place of a name among names in order, and the members at the names' indices.
-use Rattle.std.proofs.Common.{◌≡◌, ◌∙◌, ◌⊎◌, inl, inr, Bool, true, false, if◌then◌else◌, ℕ, zero, suc, ◌+◌, ◌<◌, ◌≤◌, List, [], ◌∷◌, length, map, take, drop, get_or, set, zip, insert, remove, Option, Some, None, MatchOption, IfSome, HoldsAt, Bor, option_copied, slice_get, Ordering, Less, Equal, Greater, String, Global, string_bytes, string_cmp, nat_cmp, is_eq, refl, sym, ap, subst, arith}
+use Rattle.std.proofs.Common.{◌≡◌, ◌∙◌, ◌⊎◌, inl, inr, Bool, true, false, if◌then◌else◌, ℕ, zero, suc, ◌<◌, ◌≤◌, List, [], ◌∷◌, length, map, get_or, set, zip, insert, remove, Option, Some, None, MatchOption, IfSome, HoldsAt, Bor, option_copied, slice_get, Less, Equal, Greater, String, Global, string_bytes, string_cmp, nat_cmp, is_eq, refl, sym, ap, subst, arith}
 use Rattle.std.proofs.lemmas.Cmp.{nat_list_cmp_total}
 use Rattle.std.specs.BTreeMap.{insert_entry}
 use Rattle.std.specs.Cmp.Lexicographic.{slice_cmp}
 use Rattle.std.specs.List.{AllByRecursion, AllZip}
 use Rattle.std.specs.List.Sorted.{IsStrictlySortedBy}
 use Rattle.std.specs.Map.{keys_of, lookup, remove_entry}
-use Rattle.std.specs.Ordering.{match_ordering, ordering_reverse}
+use Rattle.std.specs.Ordering.{ordering_reverse}
 use Rattle.jv_data.specs.private.Names.{IsAt, GoesTo}
 use Rattle.jv_data.specs.declared.containers.names.Names.{Names}
 

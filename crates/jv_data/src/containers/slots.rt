@@ -92,7 +92,9 @@ impl Slots {
         ensures { IfOk result (λ o. members_in o ≡ members_view (held_in self)) }
     {
         let Slots {
-            names, mut values, ..
+            names,
+            mut values,
+            ..
         } = self;
         if are_some(values.as_slice()) {
             Object::from_lists(alloc, names, values_there(alloc, values)?)

@@ -7,7 +7,6 @@ use Rattle.jv_data.specs.declared.containers.texts.SharedText.{SharedText}
 use Rattle.jv_data.specs.declared.values.Val.{Val, the_lemmas}
 use Rattle.jv_data.specs.declared.values.Val as val
 use Rattle.jv_data.proofs.Depths.{depth_under}
-
 use Rattle.jv_data.proofs.shared.Depths.{depth_held}
 use Rattle.jv_data.proofs.shared.Levels.{view-Table}
 use Rattle.jv_data.proofs.Utf8.{chars-cmp}

@@ -1,4 +1,4 @@
-use Rattle.std.proofs.Common.{rules, ◌≡◌, ◌∙◌, ap, ap₂, sym, subst, insert, remove, map, zip, string_bytes}
+use Rattle.std.proofs.Common.{rules, ◌≡◌, ◌∙◌, ap, ap₂, sym, subst, remove, zip, string_bytes}
 use Rattle.jv_data.proofs.Members.{same_names}
 use Rattle.jv_data.proofs.Names.{insert_entry-new, insert-undone, same_texts}
 use Rattle.jv_data.proofs.Places.{members_view-insert_entry}

@@ -1,4 +1,4 @@
-use Rattle.std.proofs.Common.{◌≡◌, ◌∙◌, ◌+◌, ◌-◌, ◌<◌, ◌≤◌, drop, length, zip, ap, arith, rules}
+use Rattle.std.proofs.Common.{◌≡◌, ◌∙◌, ◌+◌, ◌-◌, ◌<◌, drop, length, zip, ap, rules}
 use Rattle.jv_data.proofs.Members.{one_more}
 use Rattle.jv_data.proofs.Places.{members_view-insert_entry}
 use Rattle.jv_data.specs.View.{members_view}

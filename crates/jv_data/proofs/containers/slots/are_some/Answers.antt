@@ -1,4 +1,4 @@
-use Rattle.std.proofs.Common.{◌≡◌, ◌∙◌, ◌∷◌, ◌+◌, ◌<◌, List, Option, Some, None, Bool, false, drop, length, is_none, ap, sym, subst, rules}
+use Rattle.std.proofs.Common.{◌≡◌, ◌∙◌, ◌∷◌, ◌+◌, ◌<◌, List, Option, Some, None, false, drop, length, is_none, ap, sym, subst, rules}
 use Rattle.std.proofs.lemmas.List.{drop_all, drop_more}
 use Rattle.jv_data.specs.Drafts.{AreSome}
 use Rattle.jv_data.specs.declared.values.Val.{Val}

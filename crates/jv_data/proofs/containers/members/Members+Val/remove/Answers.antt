@@ -1,4 +1,4 @@
-use Rattle.std.proofs.Common.{◌≡◌, ◌∙◌, ◌<◌, ◌≤◌, List, Option, None, Some, length, map, option_map, remove, string_bytes, zip, sym, ap, ap₂, subst, rules}
+use Rattle.std.proofs.Common.{◌∙◌, ◌<◌, ◌≤◌, length, option_map, zip, sym, ap, ap₂, subst, rules}
 use Rattle.std.specs.Str.{chars}
 use Rattle.jv_data.proofs.Members.{same_names}
 use Rattle.jv_data.proofs.Names.{below_length, lookup_at, lookup_none, lookup_past, remove_entry-at, remove_entry-none, remove_entry-past, same_texts, slice_get_is}

@@ -1,4 +1,4 @@
-use Rattle.std.proofs.Common.{◌≡◌, ◌∙◌, length, ap}
+use Rattle.std.proofs.Common.{◌∙◌, length, ap}
 use Rattle.std.proofs.lemmas.List.{nil_from_length}
 use Rattle.jv_data.proofs.shared.Levels.{members_held}
 use Rattle.jv_data.specs.Shared.{entries_held, entries_in}
