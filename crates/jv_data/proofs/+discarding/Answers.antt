@@ -1,5 +1,6 @@
 use Rattle.std.proofs.Common.{◌∙◌, ap, arith}
-use Rattle.jv_data.proofs.Depths.{depth_of_all, depth_of_all-last, depth_under, depth_under-last}
+use Rattle.jv_data.proofs.Depths.{depth_of_all-last, depth_under-last}
+use Rattle.jv_data.proofs.shared.Depths.{depth_of_all, depth_under}
 use Rattle.jv_data.proofs.+discarding.Goals as goal
 
 pub dropping::discard_members-discard-requires : goal.dropping::discard_members-discard-requires

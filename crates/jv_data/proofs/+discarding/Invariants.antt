@@ -1,5 +1,5 @@
 use Rattle.std.proofs.Common.{◌≤◌, length}
-use Rattle.jv_data.proofs.Depths.{depth_of_all, depth_under}
+use Rattle.jv_data.proofs.shared.Depths.{depth_of_all, depth_under}
 use Rattle.jv_data.proofs.+discarding.Given as goal
 
 abbrev pub invariant-dropping::discard_items-loop-item : goal.invariant-dropping::discard_items-loop-item

@@ -6,8 +6,7 @@ use Rattle.jv_data.specs.View.{view}
 use Rattle.jv_data.specs.declared.containers.texts.SharedText.{SharedText}
 use Rattle.jv_data.specs.declared.values.Val.{Val, the_lemmas}
 use Rattle.jv_data.specs.declared.values.Val as val
-use Rattle.jv_data.proofs.Depths.{depth_under}
-use Rattle.jv_data.proofs.shared.Depths.{depth_held}
+use Rattle.jv_data.proofs.shared.Depths.{depth_held, depth_under}
 use Rattle.jv_data.proofs.shared.Levels.{view-Table}
 use Rattle.jv_data.proofs.Utf8.{chars-cmp}
 use Rattle.jv_data.proofs.Views.{first_decides}
