@@ -23,7 +23,7 @@ use std::collections::BTreeMap;
 use std::rc::Rc;
 
 // How many members are kept in lists.
-const FEW: usize = 16;
+const FEW: usize = 64;
 
 #[derive(Drop)]
 pub(crate) enum Members<T> {

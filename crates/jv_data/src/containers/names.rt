@@ -77,7 +77,27 @@ impl Clone for Names {
     }
 }
 
-// A loop, since most names are short.
+// By a loop, since most names are short.
+#[inline(always)]
+fn compare(left: &str, right: &str) -> Ordering
+    ensures { result ≡ slice_cmp nat_cmp left.now right.now }
+{
+    let mut others = right.as_bytes().iter();
+    for byte in left.as_bytes() {
+        match others.next() {
+            None => return Ordering::Greater,
+            Some(other) => match (*byte).cmp(other) {
+                Ordering::Equal => {}
+                unequal => return unequal,
+            },
+        }
+    }
+    match others.next() {
+        None => Ordering::Equal,
+        Some(_) => Ordering::Less,
+    }
+}
+
 #[inline(always)]
 fn are_equal(left: &[u8], right: &[u8]) -> bool
     ensures { IsTrue result → left.now ≡ right.now }
@@ -108,7 +128,7 @@ fn find(name: &str, texts: &[String]) -> Result<usize, usize>
     let mut high = texts.len();
     while low < high {
         let middle = low + (high - low) / 2;
-        match name.cmp(texts[middle].as_str()) {
+        match compare(name, texts[middle].as_str()) {
             Ordering::Less => high = middle,
             Ordering::Equal => return Ok(middle),
             Ordering::Greater => low = middle + 1,

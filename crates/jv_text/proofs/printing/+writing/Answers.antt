@@ -32,4 +32,4 @@ write_members-write-requires g t c κs within =
     let first = ap depth_under c.in-Some.ensures.steps in
     let inside = c.loop-key.invariant.2 in
     let held = depth_held c.args.members.now.members.value in
-    omega arith
+    (omega arith, within)

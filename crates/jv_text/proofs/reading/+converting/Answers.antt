@@ -1,4 +1,4 @@
-use Rattle.std.proofs.Common.{rules, [], ◌∷◌, ◌++◌, map, option_map, refl, sym, ap, ◌∙◌, subst, Some, length, arith}
+use Rattle.std.proofs.Common.{rules, ◌≡◌, [], ◌∷◌, ◌++◌, map, option_map, refl, sym, ap, ◌∙◌, subst, Some, length, arith}
 use Rattle.std.proofs.lemmas.List.{map-append, nil_from_length}
 use Rattle.std.specs.List.Sorted.{IsStrictlySortedBy}
 use Rattle.std.specs.Map.{keys_of}
@@ -8,7 +8,7 @@ use Rattle.serde_json.specs.View.{view as data_view, items_view as data_items, m
 use Rattle.jv_data.proofs.shared.Levels.{members_held, view-Table}
 use Rattle.jv_data.specs.View.{view, members_view}
 use Rattle.jv_meaning.specs.Value.{object}
-use Rattle.jv_text.specs.Json.{items_of, members_of}
+use Rattle.jv_text.specs.Json.{value_of, items_of, members_of}
 use Rattle.jv_text.proofs.Fronts.{before_items, before_members, all_items, all_members, items_step, members_step, insert_entry_last, keys-push}
 use Rattle.jv_text.proofs.reading.+converting.Goals as goal
 
@@ -53,4 +53,5 @@ pub value_of-returns-in_ok-from_map-in-Object : goal.value_of-returns-in_ok-from
 value_of-returns-in_ok-from_map-in-Object t c =
     let made = c.in_ok-from_map-in-Object in
     let is = view-Table made.field-0 ∙ ap object (members_held made.field-0 ∙ ap members_view made.ensures) in
-    rw is (search rules)
+    let whole : value_of (data_view c.args.json) ≡ option_map object (members_of (data_members c.in-Object.members.entries)) = search rules in
+    whole ∙ ap (option_map object) c.in_ok-members_of-in-Object.ensures ∙ ap Some (sym is)

@@ -12,7 +12,7 @@ loop-low-preserved-in-Less c =
     let middle = c.loop-low.low + (c.loop-low.high - c.loop-low.low) / 2 in
     let x = c.index-texts-middle.result in
     let within : middle < length texts = search rules in
-    let order : slice_cmp nat_cmp c.args.name.now (string_bytes x) ≡ Less = sym (rw c.as_str.ensures.value at c.cmp.ensures) ∙ c.in-Less.is in
+    let order : slice_cmp nat_cmp c.args.name.now (string_bytes x) ≡ Less = sym (rw c.as_str.ensures.value at c.compare.ensures) ∙ c.in-Less.is in
     (omega arith, omega (arith, within), c.loop-low.invariant.2, ahead_at c.args.name.now texts middle x within c.index-texts-middle.is order)
 
 pub returns-in-Equal : goal.returns-in-Equal
@@ -21,7 +21,7 @@ returns-in-Equal c =
     let middle = c.loop-low.low + (c.loop-low.high - c.loop-low.low) / 2 in
     let x = c.index-texts-middle.result in
     let within : middle < length texts = search rules in
-    let order : slice_cmp nat_cmp c.args.name.now (string_bytes x) ≡ Equal = sym (rw c.as_str.ensures.value at c.cmp.ensures) ∙ c.in-Equal.is in
+    let order : slice_cmp nat_cmp c.args.name.now (string_bytes x) ≡ Equal = sym (rw c.as_str.ensures.value at c.compare.ensures) ∙ c.in-Equal.is in
     past_here c.args.name.now texts middle x c.requires within c.index-texts-middle.is order
 
 pub loop-low-preserved : goal.loop-low-preserved
@@ -31,7 +31,7 @@ loop-low-preserved c =
     let x = c.index-texts-middle.result in
     let within : middle < length texts = search rules in
     let next : middle + 1 ≤ c.loop-low.high = search rules in
-    let order : slice_cmp nat_cmp c.args.name.now (string_bytes x) ≡ Greater = sym (rw c.as_str.ensures.value at c.cmp.ensures) ∙ c.in-Greater.is in
+    let order : slice_cmp nat_cmp c.args.name.now (string_bytes x) ≡ Greater = sym (rw c.as_str.ensures.value at c.compare.ensures) ∙ c.in-Greater.is in
     let one : suc middle ≡ middle + 1 = omega arith in
     (next, c.loop-low.invariant.1, subst (IsPast c.args.name.now (map string_bytes texts)) one (past_more c.args.name.now texts middle x c.requires within c.index-texts-middle.is order), c.loop-low.invariant.3)
 
