@@ -35,15 +35,6 @@ impl<T: Drop> Object<T> {
             members: Rc::new(alloc, Members::Many(members))?,
         })
     }
-
-    /// One more reference to the same members. It fails only if the reference count is at its maximum.
-    pub fn share(&self) -> Result<Object<T>, AllocError>
-        ensures { IfOk result (λ o. entries_in o ≡ entries_in self.now) }
-    {
-        Ok(Object {
-            members: self.members.clone()?,
-        })
-    }
 }
 
 impl<T: Drop> Object<T> {
@@ -92,6 +83,16 @@ impl Object<Val> {
     {
         Ok(Object {
             members: Rc::new(alloc, Members::new(alloc)?)?,
+        })
+    }
+
+    /// One more reference to the same members. It fails only if the reference count is at its maximum.
+    pub fn share(&self) -> Result<Object<Val>, AllocError>
+        ensures entries { IfOk result (λ o. entries_in o ≡ entries_in self.now) }
+        ensures members { IfOk result (λ o. members_in o ≡ members_in self.now) }
+    {
+        Ok(Object {
+            members: self.members.clone()?,
         })
     }
 

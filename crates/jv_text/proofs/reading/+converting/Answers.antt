@@ -4,6 +4,7 @@ use Rattle.std.specs.List.Sorted.{IsStrictlySortedBy}
 use Rattle.std.specs.Map.{keys_of}
 use Rattle.std.specs.String.{string_cmp, string_cmp_total}
 use Rattle.std.specs.Vec.Iter.{into_iter_items}
+use Rattle.serde_json.specs.declared.value.Value.{the_lemmas}
 use Rattle.serde_json.specs.View.{view as data_view, items_view as data_items, members_view as data_members}
 use Rattle.jv_data.proofs.shared.Levels.{members_held, view-Table}
 use Rattle.jv_data.specs.View.{view, members_view}
@@ -53,5 +54,5 @@ pub value_of-returns-in_ok-from_map-in-Object : goal.value_of-returns-in_ok-from
 value_of-returns-in_ok-from_map-in-Object t c =
     let made = c.in_ok-from_map-in-Object in
     let is = view-Table made.field-0 ∙ ap object (members_held made.field-0 ∙ ap members_view made.ensures) in
-    let whole : value_of (data_view c.args.json) ≡ option_map object (members_of (data_members c.in-Object.members.entries)) = search rules in
+    let whole : value_of (data_view c.args.json) ≡ option_map object (members_of (data_members c.in-Object.members.entries)) = rw c.in-Object.is (search (rules, the_lemmas)) in
     whole ∙ ap (option_map object) c.in_ok-members_of-in-Object.ensures ∙ ap Some (sym is)
