@@ -13,4 +13,6 @@ mod deep;
 #[cfg(test)]
 mod memory;
 #[cfg(test)]
+mod objects;
+#[cfg(test)]
 mod reading;
