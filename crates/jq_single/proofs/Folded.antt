@@ -64,16 +64,16 @@ fold_ends deeper k n e update source xs state r h g =
 
 -- ---- a fold of one step
 
-abbrev values_first : List Item → List Value
+abbrev pub values_first : List Item → List Value
 values_first [] = []
 values_first (x ∷ xs) = values_in_array (value_in x)
 
-abbrev first_or : Value → List Value → Value
+abbrev pub first_or : Value → List Value → Value
 first_or v [] = v
 first_or v (x ∷ xs) = x
 
 -- the values of an array of the outputs
-in_array : (xs : List Item) (f : Ending) (s : Value) → gathered (record { items = xs; ending = f }) ≡ one (plain (array (items_of (s ∷ []))))
+pub in_array : (xs : List Item) (f : Ending) (s : Value) → gathered (record { items = xs; ending = f }) ≡ one (plain (array (items_of (s ∷ []))))
     → values_first (gathered (record { items = xs; ending = f })).items ≡ s ∷ []
 in_array xs f s g = ap (λ (q : Run Item). values_first q.items) g
 

@@ -18,7 +18,6 @@ use Rattle.jq_single.specs.Single.{Ends}
 use Rattle.jq_single.specs.private.Gathering.{Gathers, given_of, made}
 use Rattle.jq_single.specs.declared.rests.Rest.{Rest}
 use Rattle.jq_single.specs.declared.rests.Rest.TheVariants as rest
-use Rattle.jq_state.specs.declared.environments.Nodes.{Nodes}
 use Rattle.jq_single.specs.declared.stops.Stop.{Stop}
 use Rattle.jq_single.proofs.Binding.{bind-known}
 
@@ -36,27 +35,28 @@ pub stops-then : (make : List Val → Run Item → Run Item) (s : Stop) (xs : Li
 stops-then make s xs r q h p = subst (λ t. Ends s (make xs t)) (sym (then_run-assoc r q p)) (h (then_run q p))
 
 -- an error, whatever the values before it are
-pub made-fail : (ns : Nodes) (inputs : Run Value) (level : ℕ) (later : Rest) (xs : List Val) (v : Value) → made ns inputs level later xs (fail v) ≡ fail v
-made-fail ns inputs level (rest.End most) xs v = refl
-made-fail ns inputs level (rest.Then' t p q later) xs v = made-fail ns inputs level later xs v
-made-fail ns inputs level (rest.Bind' n t p w q later) xs v = made-fail ns inputs level later xs v
-made-fail ns inputs level (rest.Fold n t p) xs v = refl
+pub made-fail : (inputs : Run Value) (level : ℕ) (later : Rest) (xs : List Val) (v : Value) → made inputs level later xs (fail v) ≡ fail v
+made-fail inputs level (rest.End most) xs v = refl
+made-fail inputs level (rest.Then' t p q later) xs v = made-fail inputs level later xs v
+made-fail inputs level (rest.Bind' n t p w q later) xs v = made-fail inputs level later xs v
+made-fail inputs level (rest.Step' t q later) xs v = made-fail inputs level later xs v
+made-fail inputs level (rest.Fold n t p) xs v = refl
 
-pub gathers-fail : (ns : Nodes) (inputs : Run Value) (level : ℕ) (later : Rest) (xs : List Val) (v : Value) (r : Run Item) → r ≡ fail v → (q : Run Item) → made ns inputs level later xs (then_run r q) ≡ fail v
-gathers-fail ns inputs level later xs v r e q = ap (λ p. made ns inputs level later xs (then_run p q)) e ∙ made-fail ns inputs level later xs v
+pub gathers-fail : (inputs : Run Value) (level : ℕ) (later : Rest) (xs : List Val) (v : Value) (r : Run Item) → r ≡ fail v → (q : Run Item) → made inputs level later xs (then_run r q) ≡ fail v
+gathers-fail inputs level later xs v r e q = ap (λ p. made inputs level later xs (then_run p q)) e ∙ made-fail inputs level later xs v
 
 whole : (r : Run Item) → then_run (bind r one) none ≡ r
 whole r = then_run-none (bind r one) ∙ bind-one_right r
 
 -- an array of the outputs
-all_made : (ns : Nodes) (inputs : Run Value) (level most : ℕ) (xs : List Val) (r : Run Item) → xs ≡ [] → made ns inputs level (rest.End most) xs (then_run (bind r one) none) ≡ gathered r
-all_made ns inputs level most xs r e = ap (λ zs. made ns inputs level (rest.End most) zs (then_run (bind r one) none)) e ∙ ap (made ns inputs level (rest.End most) []) (whole r)
+all_made : (inputs : Run Value) (level most : ℕ) (xs : List Val) (r : Run Item) → xs ≡ [] → made inputs level (rest.End most) xs (then_run (bind r one) none) ≡ gathered r
+all_made inputs level most xs r e = ap (λ zs. made inputs level (rest.End most) zs (then_run (bind r one) none)) e ∙ ap (made inputs level (rest.End most) []) (whole r)
 
-pub gathered_list : {A : Type 0} (ns : Nodes) (inputs : Run Value) (level most : ℕ) (d : A) (xs ys : List Val) (r : Run Item) → xs ≡ [] → Gathers (made ns inputs level (rest.End most)) (Ok d) xs ys (bind r one) → gathered r ≡ one (plain (array (items_of (map view ys))))
-gathered_list ns inputs level most d xs ys r e g = sym (all_made ns inputs level most xs r e) ∙ g none ∙ ap (λ vs. one (plain (array (items_of vs)))) (append-nil (map view ys))
+pub gathered_list : {A : Type 0} (inputs : Run Value) (level most : ℕ) (d : A) (xs ys : List Val) (r : Run Item) → xs ≡ [] → Gathers (made inputs level (rest.End most)) (Ok d) xs ys (bind r one) → gathered r ≡ one (plain (array (items_of (map view ys))))
+gathered_list inputs level most d xs ys r e g = sym (all_made inputs level most xs r e) ∙ g none ∙ ap (λ vs. one (plain (array (items_of vs)))) (append-nil (map view ys))
 
-pub ends_gathered : (ns : Nodes) (inputs : Run Value) (level most : ℕ) (s : Stop) (xs : List Val) (r : Run Item) → xs ≡ [] → ((q : Run Item) → Ends s (made ns inputs level (rest.End most) xs (then_run (bind r one) q))) → Ends s (gathered r)
-ends_gathered ns inputs level most s xs r e h = subst (Ends s) (all_made ns inputs level most xs r e) (h none)
+pub ends_gathered : (inputs : Run Value) (level most : ℕ) (s : Stop) (xs : List Val) (r : Run Item) → xs ≡ [] → ((q : Run Item) → Ends s (made inputs level (rest.End most) xs (then_run (bind r one) q))) → Ends s (gathered r)
+ends_gathered inputs level most s xs r e h = subst (Ends s) (all_made inputs level most xs r e) (h none)
 
 -- a test picks a branch
 pub picks_holds : (l : Run Item) (w : Value) (holds fails : Item → Run Item) (x : Item) → l ≡ one (plain w) → is_true w ≡ true → bind l (on_test holds fails x) ≡ holds x

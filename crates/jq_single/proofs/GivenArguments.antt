@@ -9,8 +9,6 @@ use Rattle.jq_tree.specs.Tree.{trees_of}
 use Rattle.jq_meaning.specs.Builtins.{each_choice, native_run, plain_native}
 use Rattle.jq_meaning.specs.Meaning.{arguments_with, below}
 use Rattle.jq_meaning.specs.Runs.{Run, Item, plain, value_in, bind}
-use Rattle.jq_state.specs.Environments.{envs_of}
-use Rattle.jq_state.specs.declared.environments.Nodes.{Nodes}
 use Rattle.jq_single.specs.declared.contexts.Context.{Context}
 use Rattle.jq_single.specs.private.Parts.{native_in, run}
 use Rattle.jq_single.specs.private.Scopes.{scope_env}
@@ -21,20 +19,20 @@ native_plain GetPath rs v = refl
 native_plain f rs v = refl
 
 -- with two arguments
-pub two_chosen : (ns : Nodes) (p : Context) (inputs : Run Value) (level : ℕ) (g : List Value → Run Item) (ts : List ast.Tree) (t u : ast.Tree) (v : Value) → length ts ≡ 2
+pub two_chosen : (p : Context) (inputs : Run Value) (level : ℕ) (g : List Value → Run Item) (ts : List ast.Tree) (t u : ast.Tree) (v : Value) → length ts ≡ 2
     → t ≡ get_or ts 0 t → u ≡ get_or ts 1 u
-    → each_choice (arguments_with (below p.depth) (trees_of (map named ts)) (scope_env (envs_of inputs ns) p.scope.now) level (plain v)) g
-    ≡ bind (run ns p inputs level (named t) (plain v)) (λ x. bind (run ns p inputs level (named u) (plain v)) (λ y. g (value_in x ∷ value_in y ∷ [])))
-two_chosen ns p inputs level g [] t u v e h k = absurd (omega (arith, e))
-two_chosen ns p inputs level g (a ∷ []) t u v e h k = absurd (omega (arith, e))
-two_chosen ns p inputs level g (a ∷ b ∷ []) t u v e h k =
-    let first = λ (z : ast.Tree). run ns p inputs level (named z) (plain v) in
+    → each_choice (arguments_with (below p.depth) (trees_of (map named ts)) (scope_env inputs p.scope.now) level (plain v)) g
+    ≡ bind (run p inputs level (named t) (plain v)) (λ x. bind (run p inputs level (named u) (plain v)) (λ y. g (value_in x ∷ value_in y ∷ [])))
+two_chosen p inputs level g [] t u v e h k = absurd (omega (arith, e))
+two_chosen p inputs level g (a ∷ []) t u v e h k = absurd (omega (arith, e))
+two_chosen p inputs level g (a ∷ b ∷ []) t u v e h k =
+    let first = λ (z : ast.Tree). run p inputs level (named z) (plain v) in
     ap (λ z. bind (first z) (λ x. bind (first b) (λ y. g (value_in x ∷ value_in y ∷ [])))) (sym h)
     ∙ ap (λ z. bind (first t) (λ x. bind (first z) (λ y. g (value_in x ∷ value_in y ∷ [])))) (sym k)
-two_chosen ns p inputs level g (a ∷ b ∷ c ∷ ts) t u v e h k = absurd (omega (arith, e))
+two_chosen p inputs level g (a ∷ b ∷ c ∷ ts) t u v e h k = absurd (omega (arith, e))
 
-pub two_given : (ns : Nodes) (p : Context) (inputs : Run Value) (level : ℕ) (f : Native) (ts : List ast.Tree) (t u : ast.Tree) (v : Value) → length ts ≡ 2
+pub two_given : (p : Context) (inputs : Run Value) (level : ℕ) (f : Native) (ts : List ast.Tree) (t u : ast.Tree) (v : Value) → length ts ≡ 2
     → t ≡ get_or ts 0 t → u ≡ get_or ts 1 u
-    → native_in ns p inputs level f (trees_of (map named ts)) v
-    ≡ bind (run ns p inputs level (named t) (plain v)) (λ x. bind (run ns p inputs level (named u) (plain v)) (λ y. plain_native f v (value_in x ∷ value_in y ∷ [])))
-two_given ns p inputs level f ts t u v e h k = two_chosen ns p inputs level (plain_native f v) ts t u v e h k
+    → native_in p inputs level f (trees_of (map named ts)) v
+    ≡ bind (run p inputs level (named t) (plain v)) (λ x. bind (run p inputs level (named u) (plain v)) (λ y. plain_native f v (value_in x ∷ value_in y ∷ [])))
+two_given p inputs level f ts t u v e h k = two_chosen p inputs level (plain_native f v) ts t u v e h k

@@ -9,3 +9,4 @@ pub mod TurnForms
 pub mod TurnRuns
 pub mod Outcomes
 pub mod Updated
+pub mod Passed

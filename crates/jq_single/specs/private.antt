@@ -4,7 +4,6 @@ pub mod Finds
 pub mod Parts
 pub mod Making
 pub mod Gathering
-pub mod Locating
 pub mod Around
 pub mod States
 pub mod UpdateTurns

@@ -3,136 +3,90 @@ ghost use Rattle.std.specs.Prelude.{◌≡◌, IfErr, IfNone, IfOk, IfSome};
 ghost use Rattle.jv_data.specs.View.{view};
 ghost use Rattle.jq_ast.specs.Named.{named};
 ghost use Rattle.jq_tree.specs.Tree as form;
-ghost use Rattle.jq_state.specs.Environments.{count_of};
 ghost use Rattle.jq_meaning.specs.Continuations as next;
 ghost use Rattle.jq_meaning.specs.Runs.{Run, Item, alternative, one, plain};
-ghost use Rattle.jq_single.specs.private.Scopes.{ScopeFits};
 ghost use Rattle.jq_single.specs.private.Parts.{Answers, Follows, IsUntold, RunsTo};
 
 use crate::contexts::Context;
-use crate::getting::get;
 use crate::stops::Stop;
 use jq_ast::Tree;
 use jq_natives::truth;
-use jq_state::environments::Nodes;
 use jv_data::Val;
-use std::alloc::Global;
 
-/// `f and g`.
-#[cycle(single)]
-#[inline(never)]
-pub(crate) fn get_and<'s>(
-    alloc: Global,
-    nodes: &Nodes<'s>,
-    left: &'s Tree,
-    right: &'s Tree,
-    context: &Context<'s>,
-    value: &Val,
-) -> Result<Val, Stop>
-    requires { ScopeFits (count_of nodes.now) context.now.scope.now }
-    ensures { RunsTo nodes.now context.now (form.conjunction (named left.now) (named right.now)) (view value.now) result }
-{
-    match get(alloc, nodes, left, context, value) {
-        Ok(left) => {
-            if truth(&left) {
-                get_truth(alloc, nodes, right, context, value)
-            } else {
-                Ok(Val::Bool(false))
-            }
+impl<'s> Context<'s> {
+    /// `f and g`.
+    #[cycle(single)]
+    #[inline(never)]
+    pub(crate) fn and(&self, left: &'s Tree, right: &'s Tree, value: &Val) -> Result<Val, Stop>
+        ensures { RunsTo self.now (form.conjunction (named left.now) (named right.now)) (view value.now) result }
+    {
+        let first = self.get(left, value)?;
+        if truth(&first) {
+            self.get_truth(right, value)
+        } else {
+            Ok(Val::Bool(false))
         }
-        Err(stop) => Err(stop),
     }
-}
 
-// Whether the output of a filter is neither null nor false.
-#[cycle(single)]
-fn get_truth<'s>(
-    alloc: Global,
-    nodes: &Nodes<'s>,
-    tree: &'s Tree,
-    context: &Context<'s>,
-    value: &Val,
-) -> Result<Val, Stop>
-    requires { ScopeFits (count_of nodes.now) context.now.scope.now }
-    ensures { Follows nodes.now context.now (named tree.now) (view value.now) next.truth result }
-{
-    match get(alloc, nodes, tree, context, value) {
-        Ok(output) => Ok(Val::Bool(truth(&output))),
-        Err(stop) => Err(stop),
-    }
-}
-
-/// `f or g`.
-#[cycle(single)]
-#[inline(never)]
-pub(crate) fn get_or<'s>(
-    alloc: Global,
-    nodes: &Nodes<'s>,
-    left: &'s Tree,
-    right: &'s Tree,
-    context: &Context<'s>,
-    value: &Val,
-) -> Result<Val, Stop>
-    requires { ScopeFits (count_of nodes.now) context.now.scope.now }
-    ensures { RunsTo nodes.now context.now (form.disjunction (named left.now) (named right.now)) (view value.now) result }
-{
-    match get(alloc, nodes, left, context, value) {
-        Ok(left) => {
-            if truth(&left) {
-                Ok(Val::Bool(true))
-            } else {
-                get_truth(alloc, nodes, right, context, value)
-            }
+    /// `f or g`.
+    #[cycle(single)]
+    #[inline(never)]
+    pub(crate) fn or(&self, left: &'s Tree, right: &'s Tree, value: &Val) -> Result<Val, Stop>
+        ensures { RunsTo self.now (form.disjunction (named left.now) (named right.now)) (view value.now) result }
+    {
+        let first = self.get(left, value)?;
+        if truth(&first) {
+            Ok(Val::Bool(true))
+        } else {
+            self.get_truth(right, value)
         }
-        Err(stop) => Err(stop),
     }
-}
 
-/// `if f then g else h end`.
-#[cycle(single)]
-#[inline(never)]
-pub(crate) fn get_choice<'s>(
-    alloc: Global,
-    nodes: &Nodes<'s>,
-    condition: &'s Tree,
-    holds: &'s Tree,
-    fails: &'s Tree,
-    context: &Context<'s>,
-    value: &Val,
-) -> Result<Val, Stop>
-    requires { ScopeFits (count_of nodes.now) context.now.scope.now }
-    ensures { RunsTo nodes.now context.now (form.choice (named condition.now) (named holds.now) (named fails.now)) (view value.now) result }
-{
-    match get(alloc, nodes, condition, context, value) {
-        Ok(test) => {
-            if truth(&test) {
-                get(alloc, nodes, holds, context, value)
-            } else {
-                get(alloc, nodes, fails, context, value)
-            }
+    // Whether the output of a filter is neither null nor false.
+    #[cycle(single)]
+    fn get_truth(&self, tree: &'s Tree, value: &Val) -> Result<Val, Stop>
+        ensures { Follows self.now (named tree.now) (view value.now) next.truth result }
+    {
+        let output = self.get(tree, value)?;
+        Ok(Val::Bool(truth(&output)))
+    }
+
+    /// `f // g`.
+    #[cycle(single)]
+    #[inline(never)]
+    pub(crate) fn alternative(
+        &self,
+        left: &'s Tree,
+        right: &'s Tree,
+        value: &Val,
+    ) -> Result<Val, Stop>
+        ensures { RunsTo self.now (form.alternative (named left.now) (named right.now)) (view value.now) result }
+    {
+        match kept(self.get(left, value)) {
+            Ok(Some(found)) => Ok(found),
+            Ok(None) => self.get(right, value),
+            Err(stop) => Err(stop),
         }
-        Err(stop) => Err(stop),
     }
-}
 
-/// `f // g`.
-#[cycle(single)]
-#[inline(never)]
-pub(crate) fn get_alternative<'s>(
-    alloc: Global,
-    nodes: &Nodes<'s>,
-    left: &'s Tree,
-    right: &'s Tree,
-    context: &Context<'s>,
-    value: &Val,
-) -> Result<Val, Stop>
-    requires { ScopeFits (count_of nodes.now) context.now.scope.now }
-    ensures { RunsTo nodes.now context.now (form.alternative (named left.now) (named right.now)) (view value.now) result }
-{
-    match kept(get(alloc, nodes, left, context, value)) {
-        Ok(Some(found)) => Ok(found),
-        Ok(None) => get(alloc, nodes, right, context, value),
-        Err(stop) => Err(stop),
+    /// `try f catch g`.
+    #[cycle(single)]
+    #[inline(never)]
+    pub(crate) fn try_catch(
+        &self,
+        body: &'s Tree,
+        handler: &'s Tree,
+        value: &Val,
+    ) -> Result<Val, Stop>
+        ensures { RunsTo self.now (form.try_catch (named body.now) (named handler.now)) (view value.now) result }
+    {
+        match self.get(body, value) {
+            Ok(found) => Ok(found),
+            Err(Stop::Raised(error)) => self.get(handler, &error),
+            Err(Stop::Nothing) => Err(Stop::Nothing),
+            Err(Stop::NoMemory) => Err(Stop::NoMemory),
+            Err(Stop::Unknown) => Err(Stop::Unknown),
+        }
     }
 }
 
@@ -151,29 +105,6 @@ fn kept(found: Result<Val, Stop>) -> Result<Option<Val>, Stop>
         }
         Err(Stop::Nothing) => Ok(None),
         Err(Stop::Raised(_error)) => Ok(None),
-        Err(Stop::NoMemory) => Err(Stop::NoMemory),
-        Err(Stop::Unknown) => Err(Stop::Unknown),
-    }
-}
-
-/// `try f catch g`.
-#[cycle(single)]
-#[inline(never)]
-pub(crate) fn get_try<'s>(
-    alloc: Global,
-    nodes: &Nodes<'s>,
-    body: &'s Tree,
-    handler: &'s Tree,
-    context: &Context<'s>,
-    value: &Val,
-) -> Result<Val, Stop>
-    requires { ScopeFits (count_of nodes.now) context.now.scope.now }
-    ensures { RunsTo nodes.now context.now (form.try_catch (named body.now) (named handler.now)) (view value.now) result }
-{
-    match get(alloc, nodes, body, context, value) {
-        Ok(found) => Ok(found),
-        Err(Stop::Raised(error)) => get(alloc, nodes, handler, context, &error),
-        Err(Stop::Nothing) => Err(Stop::Nothing),
         Err(Stop::NoMemory) => Err(Stop::NoMemory),
         Err(Stop::Unknown) => Err(Stop::Unknown),
     }

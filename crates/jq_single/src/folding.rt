@@ -1,188 +1,261 @@
 // `reduce`, whose state each step changes in place.
 ghost use Rattle.std.specs.Prelude.{◌≡◌, ◌∷◌, [], IfSome, OnOk};
-ghost use Rattle.jq_single.specs.Single.{Keeps};
 ghost use Rattle.jv_meaning.specs.Text.{text_of};
 ghost use Rattle.jv_data.specs.View.{view};
 ghost use Rattle.jq_ast.specs.Named.{named, named_as_pattern};
 ghost use Rattle.jq_tree.specs.Tree as form;
 ghost use Rattle.jq_meaning.specs.Runs.{plain};
-ghost use Rattle.jq_state.specs.Environments.{count_of};
-ghost use Rattle.jq_single.specs.private.Gathering.{ChangesToNext, ChangesTurn, FoldsFrom, FoldsIn, GathersTurn, NextStateIs, Turns, state_in};
+ghost use Rattle.jq_single.specs.Single.{Keeps};
+ghost use Rattle.jq_single.specs.private.Gathering.{FoldsFrom, FoldsIn, GathersAll, GathersTurn, Steps, Turns, state_in};
 ghost use Rattle.jq_single.specs.private.Parts.{ChangesTo, RunsTo};
-ghost use Rattle.jq_single.specs.private.Scopes.{ScopeFits};
 
-use crate::changing::change;
 use crate::contexts::Context;
-use crate::gathering::gather;
-use crate::getting::get;
 use crate::rests::Rest;
 use crate::scopes::Scope;
 use crate::stops::Stop;
 use jq_ast::{Pattern, Tree};
 use jq_shapes::{copies, pays_for_copy};
-use jq_state::environments::Nodes;
+use jq_state::items::Item;
 use jv_data::{NoMemory, Val};
-use std::alloc::Global;
 
 // The most outputs of a source that are kept in a list.
 const MOST: usize = 65_536;
 
-/// `reduce f as $x (g; h)`. If the state would be a copy of a large input, the machine runs the filter.
-#[cycle(single)]
-#[inline(never)]
-pub(crate) fn get_reduce<'s>(
-    alloc: Global,
-    nodes: &Nodes<'s>,
-    source: &'s Tree,
-    pattern: &'s Pattern,
-    start: &'s Tree,
-    update: &'s Tree,
-    context: &Context<'s>,
-    value: &Val,
-) -> Result<Val, Stop>
-    requires { ScopeFits (count_of nodes.now) context.now.scope.now }
-    ensures { RunsTo nodes.now context.now (form.reduce (named source.now) (named_as_pattern pattern.now) (named start.now) (named update.now)) (view value.now) result }
-{
-    match pattern {
-        Pattern::Whole(name) => {
-            if !may_fold(alloc, nodes, source, start, context, value) {
-                return Err(Stop::Unknown);
+impl<'s> Context<'s> {
+    /// `reduce f as $x (g; h)`. If the state would be a copy of a large input, and the source has few outputs, the machine runs
+    /// the filter.
+    #[cycle(single)]
+    #[inline(never)]
+    pub(crate) fn reduce(
+        &self,
+        source: &'s Tree,
+        pattern: &'s Pattern,
+        start: &'s Tree,
+        update: &'s Tree,
+        value: &Val,
+    ) -> Result<Val, Stop>
+        ensures { RunsTo self.now (form.reduce (named source.now) (named_as_pattern pattern.now) (named start.now) (named update.now)) (view value.now) result }
+    {
+        match pattern {
+            Pattern::Whole(name) => {
+                if copies(start, value) && !self.may_copy(source, value) {
+                    return Err(Stop::Unknown);
+                }
+                let state = self.get(start, value)?;
+                self.fold(source, name, state, update, value)
             }
-            match get(alloc, nodes, start, context, value) {
-                Ok(state) => fold(alloc, nodes, source, name, state, update, context, value),
-                Err(stop) => Err(stop),
-            }
+            _ => Err(Stop::Unknown),
         }
-        _ => Err(Stop::Unknown),
     }
-}
 
-// Whether the state of a fold is no copy of a large input, or its source has enough outputs.
-#[cycle(single)]
-#[inline(never)]
-fn may_fold<'s>(
-    alloc: Global,
-    nodes: &Nodes<'s>,
-    source: &'s Tree,
-    start: &Tree,
-    context: &Context<'s>,
-    value: &Val,
-) -> bool
-    requires { ScopeFits (count_of nodes.now) context.now.scope.now }
-{
-    if copies(start, value) {
-        may_copy(alloc, nodes, source, context, value)
-    } else {
-        true
+    /// Whether a source has so many outputs that a fold may change a copy of its input.
+    #[cycle(single)]
+    #[inline(never)]
+    pub(crate) fn may_copy(&self, source: &'s Tree, value: &Val) -> bool {
+        let mut values = Vec::new(self.alloc);
+        match self.gather_source(source, value, MOST, &mut values) {
+            Ok(()) => pays_for_copy(value, values.as_slice()),
+            Err(_stop) => values.len() >= MOST,
+        }
     }
-}
 
-/// Whether a source has so many outputs that a fold may change a copy of its input. A source that is run only to find out has
-/// half of the fuel, so that folds in the sources of folds are not run more often at each level.
-#[cycle(single)]
-#[inline(never)]
-pub(crate) fn may_copy<'s>(
-    alloc: Global,
-    nodes: &Nodes<'s>,
-    source: &'s Tree,
-    context: &Context<'s>,
-    value: &Val,
-) -> bool
-    requires { ScopeFits (count_of nodes.now) context.now.scope.now }
-{
-    let mut values = Vec::new(alloc);
-    let end = Rest::End(MOST);
-    let tried = Context {
-        scope: context.scope,
-        depth: context.depth,
-        fuel: context.fuel / 2,
-    };
-    match gather(alloc, nodes, source, &tried, value, &end, &mut values) {
-        Ok(()) => pays_for_copy(value, values.as_slice()),
-        Err(_stop) => values.len() >= MOST,
+    /// The outputs of a source. A source that is run only to find them out has half of the fuel, so that folds in the
+    /// sources of folds are not run more often at each level.
+    #[cycle(single)]
+    #[inline(never)]
+    pub(crate) fn gather_source(
+        &self,
+        source: &'s Tree,
+        value: &Val,
+        most: usize,
+        into: &mut Vec<Val>,
+    ) -> Result<(), Stop>
+        requires { into.old.items ≡ [] }
+        ensures { GathersAll self.now (named source.now) (view value.now) result into.new.items }
+    {
+        let input = Item::plain(value.copy()?);
+        let end = Rest::End(most);
+        let tried = Context {
+            alloc: self.alloc,
+            scope: self.scope,
+            depth: self.depth,
+            fuel: self.fuel / 2,
+            kept: self.kept,
+        };
+        tried.gather(&*source, &input, &end, into)
     }
-}
 
-/// `reduce f as $x (g; h)`, whose result replaces the input.
-#[cycle(single)]
-#[inline(never)]
-pub(crate) fn change_reduce<'s>(
-    alloc: Global,
-    nodes: &Nodes<'s>,
-    source: &'s Tree,
-    pattern: &'s Pattern,
-    start: &'s Tree,
-    update: &'s Tree,
-    context: &Context<'s>,
-    value: &mut Val,
-) -> Result<(), Stop>
-    requires { ScopeFits (count_of nodes.now) context.now.scope.now }
-    ensures runs { ChangesTo nodes.now context.now (form.reduce (named source.now) (named_as_pattern pattern.now) (named start.now) (named update.now)) (view value.old) (view value.new) result }
-    ensures keeps { Keeps result (view value.old) (view value.new) }
-{
-    match start {
-        Tree::Identity => change_state_of(alloc, nodes, source, pattern, update, context, value),
-        _ => match get_reduce(alloc, nodes, source, pattern, start, update, context, value) {
-            Ok(output) => {
-                *value = output;
+    /// `reduce f as $x (g; h)`, whose result replaces the input.
+    #[cycle(single)]
+    #[inline(never)]
+    pub(crate) fn change_reduce(
+        &self,
+        source: &'s Tree,
+        pattern: &'s Pattern,
+        start: &'s Tree,
+        update: &'s Tree,
+        value: &mut Val,
+    ) -> Result<(), Stop>
+        ensures runs { ChangesTo self.now (form.reduce (named source.now) (named_as_pattern pattern.now) (named start.now) (named update.now)) (view value.old) (view value.new) result }
+        ensures keeps { Keeps result (view value.old) (view value.new) }
+    {
+        match start {
+            Tree::Identity if !self.kept => match pattern {
+                Pattern::Whole(name) => self.change_fold(source, name, update, value),
+                _ => Err(Stop::Unknown),
+            },
+            _ => match self.reduce(source, pattern, start, update, value) {
+                Ok(output) => {
+                    *value = output;
+                    Ok(())
+                }
+                Err(stop) => Err(stop),
+            },
+        }
+    }
+
+    // The fold of the input. With one output of the source the input is changed in place; with more a copy of it is, since a
+    // later step may be one that is not run at once.
+    #[cycle(single)]
+    #[inline(never)]
+    fn change_fold(
+        &self,
+        source: &'s Tree,
+        name: &'s String,
+        update: &'s Tree,
+        value: &mut Val,
+    ) -> Result<(), Stop>
+        ensures runs { FoldsIn self.now (named source.now) (text_of name.now) (named update.now) (view value.old) (view value.new) result }
+        ensures keeps { Keeps result (view value.old) (view value.new) }
+    {
+        let mut values = Vec::new(self.alloc);
+        match self.gather_source(source, value, 2, &mut values) {
+            Ok(()) => match single_of(values.as_slice()) {
+                Some(single) => self.step(name, update, single, value),
+                None => self.change_copy(source, name, update, value),
+            },
+            Err(_stop) => self.change_copy(source, name, update, value),
+        }
+    }
+
+    // The fold of a copy of the input.
+    #[cycle(single)]
+    fn change_copy(
+        &self,
+        source: &'s Tree,
+        name: &'s String,
+        update: &'s Tree,
+        value: &mut Val,
+    ) -> Result<(), Stop>
+        ensures runs { FoldsIn self.now (named source.now) (text_of name.now) (named update.now) (view value.old) (view value.new) result }
+        ensures keeps { Keeps result (view value.old) (view value.new) }
+    {
+        if !self.may_copy(source, value) {
+            return Err(Stop::Unknown);
+        }
+        let state = value.copy()?;
+        match self.fold(source, name, state, update, value) {
+            Ok(state) => {
+                *value = state;
                 Ok(())
             }
             Err(stop) => Err(stop),
-        },
+        }
     }
-}
 
-// `reduce f as $x (.; h)`.
-#[cycle(single)]
-fn change_state_of<'s>(
-    alloc: Global,
-    nodes: &Nodes<'s>,
-    source: &'s Tree,
-    pattern: &'s Pattern,
-    update: &'s Tree,
-    context: &Context<'s>,
-    value: &mut Val,
-) -> Result<(), Stop>
-    requires { ScopeFits (count_of nodes.now) context.now.scope.now }
-    ensures runs { ChangesTo nodes.now context.now (form.reduce (named source.now) (named_as_pattern pattern.now) form.identity (named update.now)) (view value.old) (view value.new) result }
-    ensures keeps { Keeps result (view value.old) (view value.new) }
-{
-    match pattern {
-        Pattern::Whole(name) => change_fold(alloc, nodes, source, name, update, context, value),
-        _ => Err(Stop::Unknown),
+    // The last state, from a known state. The list has one value, the state, which each output of the source changes.
+    #[cycle(single)]
+    fn fold(
+        &self,
+        source: &'s Tree,
+        name: &'s String,
+        state: Val,
+        update: &'s Tree,
+        value: &Val,
+    ) -> Result<Val, Stop>
+        ensures { FoldsFrom self.now (named source.now) (text_of name.now) (named update.now) (view state) (view value.now) result }
+    {
+        let mut states = Vec::new(self.alloc);
+        keep(&mut states, state)?;
+        let input = Item::plain(value.copy()?);
+        let update = Rest::Fold(&*name, &*update, &*self);
+        match (&*self).gather(&*source, &input, &update, &mut states) {
+            Ok(()) => match take(&mut states) {
+                Some(state) => Ok(state),
+                None => Err(Stop::Unknown),
+            },
+            Err(stop) => Err(stop),
+        }
     }
-}
 
-// The fold of the input. With one output of the source the input is changed in place; with more a copy of it is, since a
-// later step may be one that is not run at once.
-#[cycle(single)]
-#[inline(never)]
-fn change_fold<'s>(
-    alloc: Global,
-    nodes: &Nodes<'s>,
-    source: &'s Tree,
-    name: &'s String,
-    update: &'s Tree,
-    context: &Context<'s>,
-    value: &mut Val,
-) -> Result<(), Stop>
-    requires { ScopeFits (count_of nodes.now) context.now.scope.now }
-    ensures runs { FoldsIn nodes.now context.now (named source.now) (text_of name.now) (named update.now) (view value.old) (view value.new) result }
-    ensures keeps { Keeps result (view value.old) (view value.new) }
-{
-    let mut values = Vec::new(alloc);
-    let end = Rest::End(2);
-    let tried = Context {
-        scope: context.scope,
-        depth: context.depth,
-        fuel: context.fuel / 2,
-    };
-    match gather(alloc, nodes, source, &tried, value, &end, &mut values) {
-        Ok(()) => match single_of(values.as_slice()) {
-            Some(single) => change_once(alloc, nodes, name, update, context, single, value),
-            None => change_copy(alloc, nodes, source, name, update, context, value),
-        },
-        Err(_stop) => change_copy(alloc, nodes, source, name, update, context, value),
+    /// A step of a fold on the last value of a list, its state.
+    #[cycle(single)]
+    #[inline(never)]
+    pub(crate) fn turn(
+        &self,
+        name: &'s String,
+        update: &'s Tree,
+        context: &Context<'s>,
+        value: &Val,
+        states: &mut Vec<Val>,
+    ) -> Result<(), Stop>
+        ensures { GathersTurn context.now (text_of name.now) (named update.now) (view value.now) result states.old.items states.new.items }
+    {
+        let Some(mut state) = take(states) else {
+            return Err(Stop::Unknown);
+        };
+        let inside = Context {
+            alloc: self.alloc,
+            scope: context.scope,
+            depth: context.depth,
+            fuel: self.fuel,
+            kept: false,
+        };
+        match inside.step(name, update, value, &mut state) {
+            Ok(()) => Ok(keep(states, state)?),
+            Err(stop) => Err(stop),
+        }
+    }
+
+    // A step of a fold: the variable is bound to a value, and the update changes the state.
+    #[cycle(single)]
+    fn step(
+        &self,
+        name: &'s String,
+        update: &'s Tree,
+        single: &Val,
+        state: &mut Val,
+    ) -> Result<(), Stop>
+        ensures runs { Turns self.now (text_of name.now) (named update.now) (view single.now) (view state.old) (view state.new) result }
+        ensures keeps { Keeps result (view state.old) (view state.new) }
+    {
+        let scope = Scope::Value(&*self.scope, &*name, &*single);
+        let inside = Context {
+            alloc: self.alloc,
+            scope: &scope,
+            depth: self.depth,
+            fuel: self.fuel,
+            kept: self.kept,
+        };
+        inside.change_to_next(&*update, state)
+    }
+
+    // The output of the update replaces the state, or null if it has none.
+    #[cycle(single)]
+    fn change_to_next(&self, update: &'s Tree, state: &mut Val) -> Result<(), Stop>
+        ensures runs { Steps self.now (named update.now) (view state.old) (view state.new) result }
+        ensures keeps { Keeps result (view state.old) (view state.new) }
+    {
+        match self.change(update, state) {
+            Ok(()) => Ok(()),
+            Err(Stop::Nothing) => {
+                *state = Val::Null;
+                Ok(())
+            }
+            Err(Stop::Raised(error)) => Err(Stop::Raised(error)),
+            Err(Stop::NoMemory) => Err(Stop::NoMemory),
+            Err(Stop::Unknown) => Err(Stop::Unknown),
+        }
     }
 }
 
@@ -193,185 +266,6 @@ pub(crate) fn single_of(values: &[Val]) -> Option<&Val>
     match values {
         [single] => Some(single),
         _ => None,
-    }
-}
-
-// The fold of a copy of the input.
-#[cycle(single)]
-fn change_copy<'s>(
-    alloc: Global,
-    nodes: &Nodes<'s>,
-    source: &'s Tree,
-    name: &'s String,
-    update: &'s Tree,
-    context: &Context<'s>,
-    value: &mut Val,
-) -> Result<(), Stop>
-    requires { ScopeFits (count_of nodes.now) context.now.scope.now }
-    ensures runs { FoldsIn nodes.now context.now (named source.now) (text_of name.now) (named update.now) (view value.old) (view value.new) result }
-    ensures keeps { Keeps result (view value.old) (view value.new) }
-{
-    if !may_copy(alloc, nodes, source, context, value) {
-        return Err(Stop::Unknown);
-    }
-    let state = value.copy()?;
-    match fold(alloc, nodes, source, name, state, update, context, value) {
-        Ok(state) => {
-            *value = state;
-            Ok(())
-        }
-        Err(stop) => Err(stop),
-    }
-}
-
-// A fold of one step.
-#[cycle(single)]
-fn change_once<'s>(
-    alloc: Global,
-    nodes: &Nodes<'s>,
-    name: &'s String,
-    update: &'s Tree,
-    context: &Context<'s>,
-    single: &Val,
-    value: &mut Val,
-) -> Result<(), Stop>
-    requires { ScopeFits (count_of nodes.now) context.now.scope.now }
-    ensures runs { ChangesTurn nodes.now context.now (text_of name.now) (named update.now) (view single.now) (view value.old) (view value.new) result }
-    ensures keeps { Keeps result (view value.old) (view value.new) }
-{
-    let scope = Scope::Value(&*context.scope, &*name, &*single);
-    let inside = Context {
-        scope: &scope,
-        depth: context.depth,
-        fuel: context.fuel,
-    };
-    change_to_next(alloc, &*nodes, &*update, &inside, value)
-}
-
-// The next state takes the place of the state.
-#[cycle(single)]
-fn change_to_next<'s>(
-    alloc: Global,
-    nodes: &Nodes<'s>,
-    update: &'s Tree,
-    context: &Context<'s>,
-    value: &mut Val,
-) -> Result<(), Stop>
-    requires { ScopeFits (count_of nodes.now) context.now.scope.now }
-    ensures runs { ChangesToNext nodes.now context.now (named update.now) (view value.old) (view value.new) result }
-    ensures keeps { Keeps result (view value.old) (view value.new) }
-{
-    match change(alloc, nodes, update, context, value) {
-        Ok(()) => Ok(()),
-        Err(Stop::Nothing) => {
-            *value = Val::Null;
-            Ok(())
-        }
-        Err(Stop::Raised(error)) => Err(Stop::Raised(error)),
-        Err(Stop::NoMemory) => Err(Stop::NoMemory),
-        Err(Stop::Unknown) => Err(Stop::Unknown),
-    }
-}
-
-// The last state, from a known state. The list has one value, the state, which each output of the source changes.
-#[cycle(single)]
-fn fold<'s>(
-    alloc: Global,
-    nodes: &Nodes<'s>,
-    source: &'s Tree,
-    name: &'s String,
-    state: Val,
-    update: &'s Tree,
-    context: &Context<'s>,
-    value: &Val,
-) -> Result<Val, Stop>
-    requires { ScopeFits (count_of nodes.now) context.now.scope.now }
-    ensures { FoldsFrom nodes.now context.now (named source.now) (text_of name.now) (named update.now) (view state) (view value.now) result }
-{
-    let mut states = Vec::new(alloc);
-    keep(&mut states, state)?;
-    let update = Rest::Fold(&*name, &*update, &*context);
-    match gather(
-        alloc,
-        &*nodes,
-        &*source,
-        &*context,
-        value,
-        &update,
-        &mut states,
-    ) {
-        Ok(()) => match take(&mut states) {
-            Some(state) => Ok(state),
-            None => Err(Stop::Unknown),
-        },
-        Err(stop) => Err(stop),
-    }
-}
-
-/// A step of a fold: the variable is bound to a value, and the update changes the state.
-#[cycle(single)]
-#[inline(never)]
-pub(crate) fn turn<'s>(
-    alloc: Global,
-    nodes: &Nodes<'s>,
-    name: &'s String,
-    update: &'s Tree,
-    context: &Context<'s>,
-    value: &Val,
-    fuel: u32,
-    states: &mut Vec<Val>,
-) -> Result<(), Stop>
-    requires { ScopeFits (count_of nodes.now) context.now.scope.now }
-    ensures { GathersTurn nodes.now context.now (text_of name.now) (named update.now) (view value.now) result states.old.items states.new.items }
-{
-    let scope = Scope::Value(&*context.scope, &*name, &*value);
-    let inside = Context {
-        scope: &scope,
-        depth: context.depth,
-        fuel,
-    };
-    change_state(alloc, &*nodes, &*update, &inside, states)
-}
-
-// The output of the update replaces the state.
-#[cycle(single)]
-fn change_state<'s>(
-    alloc: Global,
-    nodes: &Nodes<'s>,
-    update: &'s Tree,
-    context: &Context<'s>,
-    states: &mut Vec<Val>,
-) -> Result<(), Stop>
-    requires { ScopeFits (count_of nodes.now) context.now.scope.now }
-    ensures { Turns nodes.now context.now (named update.now) result states.old.items states.new.items }
-{
-    let Some(state) = take(states) else {
-        return Err(Stop::Unknown);
-    };
-    match next_state(alloc, nodes, update, context, state) {
-        Ok(state) => Ok(keep(states, state)?),
-        Err(stop) => Err(stop),
-    }
-}
-
-// The next state: the output of the update, or null if it has none.
-#[cycle(single)]
-fn next_state<'s>(
-    alloc: Global,
-    nodes: &Nodes<'s>,
-    update: &'s Tree,
-    context: &Context<'s>,
-    mut state: Val,
-) -> Result<Val, Stop>
-    requires { ScopeFits (count_of nodes.now) context.now.scope.now }
-    ensures { NextStateIs nodes.now context.now (named update.now) (view state) result }
-{
-    match change(alloc, nodes, update, context, &mut state) {
-        Ok(()) => Ok(state),
-        Err(Stop::Nothing) => Ok(Val::Null),
-        Err(Stop::Raised(error)) => Err(Stop::Raised(error)),
-        Err(Stop::NoMemory) => Err(Stop::NoMemory),
-        Err(Stop::Unknown) => Err(Stop::Unknown),
     }
 }
 

@@ -6,471 +6,385 @@ ghost use Rattle.jq_ast.specs.Named.{name_of, named, named_as_pattern};
 ghost use Rattle.jq_tree.specs.Tree.{trees_of};
 ghost use Rattle.jq_tree.specs.Tree as form;
 ghost use Rattle.jq_operations.specs.Language.{meaning_of};
-ghost use Rattle.jq_state.specs.Environments.{count_of};
-ghost use Rattle.jq_single.specs.private.Gathering.{GathersBelow, GathersBuiltin, GathersFunction, GathersOf, RestFits};
-ghost use Rattle.jq_single.specs.private.Scopes.{ScopeFits};
+ghost use Rattle.jq_state.specs.Items.{item_of};
+ghost use Rattle.jq_single.specs.private.Gathering.{GathersBelow, GathersBuiltin, GathersFunction, GathersOf};
 
 use crate::contexts::Context;
 use crate::finding::{Found, callee_of, prelude_of};
-use crate::getting::get;
-use crate::giving::{ended, give, give_outputs};
-use crate::natives::get_builtin;
-use crate::paths::gather_paths;
-use crate::ranges::gather_range;
-use crate::rests::Rest;
+use crate::giving::ended;
+use crate::rests::{Rest, Step};
 use crate::scopes::Scope;
 use crate::stops::Stop;
 use jq_ast::{Function, Name, Pattern, Tree};
 use jq_natives::truth;
-use jq_operations::{Builtin, builtin_named, run};
+use jq_operations::{Builtin, builtin_named};
 use jq_shapes::is_update;
-use jq_state::environments::Nodes;
 use jq_state::items::Item;
-use jq_state::steps::Operation;
 use jv_data::Val;
-use std::alloc::Global;
 
-/// Runs a filter in a scope, and the rest on each of its outputs. The values at the end are added to a list.
-#[cycle(single)]
-pub(crate) fn gather<'s>(
-    alloc: Global,
-    nodes: &Nodes<'s>,
-    tree: &'s Tree,
-    context: &Context<'s>,
-    value: &Val,
-    rest: &Rest<'s>,
-    into: &mut Vec<Val>,
-) -> Result<(), Stop>
-    requires scope { ScopeFits (count_of nodes.now) context.now.scope.now }
-    requires rest { RestFits (count_of nodes.now) rest.now }
-    ensures { GathersOf nodes.now context.now (named tree.now) (view value.now) rest.now result into.old.items into.new.items }
-{
-    if context.fuel == 0 {
-        return Err(Stop::Unknown);
-    }
-    let inside = Context {
-        scope: context.scope,
-        depth: context.depth,
-        fuel: context.fuel - 1,
-    };
-    gather_form(alloc, nodes, tree, &inside, value, rest, into)
-}
-
-// The same, with the fuel for the parts.
-#[cycle(single)]
-#[inline(always)]
-fn gather_form<'s>(
-    alloc: Global,
-    nodes: &Nodes<'s>,
-    tree: &'s Tree,
-    context: &Context<'s>,
-    value: &Val,
-    rest: &Rest<'s>,
-    into: &mut Vec<Val>,
-) -> Result<(), Stop>
-    requires scope { ScopeFits (count_of nodes.now) context.now.scope.now }
-    requires rest { RestFits (count_of nodes.now) rest.now }
-    ensures { GathersOf nodes.now context.now (named tree.now) (view value.now) rest.now result into.old.items into.new.items }
-{
-    match tree {
-        Tree::Identity => give(alloc, nodes, value, rest, context.fuel, into),
-        Tree::Iterate(target, guarded) => {
-            gather_parts(alloc, nodes, target, *guarded, context, value, rest, into)
+impl<'s> Context<'s> {
+    /// Runs a filter in a scope, and the rest on each of its outputs. The values at the end are added to a list.
+    #[cycle(single)]
+    pub(crate) fn gather(
+        &self,
+        tree: &'s Tree,
+        item: &Item,
+        rest: &Rest<'s>,
+        into: &mut Vec<Val>,
+    ) -> Result<(), Stop>
+        ensures { GathersOf self.now (named tree.now) (item_of item.now) rest.now result into.old.items into.new.items }
+    {
+        if self.fuel == 0 {
+            return Err(Stop::Unknown);
         }
-        Tree::Pipe(first, second) => {
-            if is_update(tree) {
-                gather_one(alloc, nodes, tree, context, value, rest, into)
-            } else {
-                gather_pipe(alloc, nodes, first, second, context, value, rest, into)
+        let inside = Context {
+            alloc: self.alloc,
+            scope: self.scope,
+            depth: self.depth,
+            fuel: self.fuel - 1,
+            kept: self.kept,
+        };
+        inside.gather_form(tree, item, rest, into)
+    }
+
+    // The same, with the fuel for the parts.
+    #[cycle(single)]
+    #[inline(always)]
+    fn gather_form(
+        &self,
+        tree: &'s Tree,
+        item: &Item,
+        rest: &Rest<'s>,
+        into: &mut Vec<Val>,
+    ) -> Result<(), Stop>
+        ensures { GathersOf self.now (named tree.now) (item_of item.now) rest.now result into.old.items into.new.items }
+    {
+        match tree {
+            Tree::Identity => self.give(item, rest, into),
+            Tree::Iterate(target, guarded) => {
+                self.gather_parts(target, *guarded, item, rest, into)
             }
-        }
-        Tree::Comma(first, second) => {
-            gather_comma(alloc, nodes, first, second, context, value, rest, into)
-        }
-        Tree::Choice(condition, holds, fails) => {
-            gather_choice(
-                alloc, nodes, condition, holds, fails, context, value, rest, into,
-            )
-        }
-        Tree::BindAs(source, pattern, body) => {
-            gather_binding(
-                alloc, nodes, source, pattern, body, context, value, rest, into,
-            )
-        }
-        Tree::Define(function, later) => {
-            gather_define(alloc, nodes, function, later, context, value, rest, into)
-        }
-        Tree::Call(name, arguments) => {
-            let arguments = arguments.as_slice();
-            gather_call(alloc, nodes, name, arguments, context, value, rest, into)
-        }
-        Tree::PreludeCall(name, arguments) => {
-            let arguments = arguments.as_slice();
-            gather_prelude_call(alloc, nodes, name, arguments, context, value, rest, into)
-        }
-        _ => gather_one(alloc, nodes, tree, context, value, rest, into),
-    }
-}
-
-// A filter of at most one output.
-#[cycle(single)]
-#[inline(never)]
-fn gather_one<'s>(
-    alloc: Global,
-    nodes: &Nodes<'s>,
-    tree: &'s Tree,
-    context: &Context<'s>,
-    value: &Val,
-    rest: &Rest<'s>,
-    into: &mut Vec<Val>,
-) -> Result<(), Stop>
-    requires scope { ScopeFits (count_of nodes.now) context.now.scope.now }
-    requires rest { RestFits (count_of nodes.now) rest.now }
-    ensures { GathersOf nodes.now context.now (named tree.now) (view value.now) rest.now result into.old.items into.new.items }
-{
-    match get(alloc, nodes, tree, context, value) {
-        Ok(found) => give(alloc, nodes, &found, rest, context.fuel, into),
-        Err(stop) => ended(stop),
-    }
-}
-
-// `f[]`.
-#[cycle(single)]
-#[inline(never)]
-fn gather_parts<'s>(
-    alloc: Global,
-    nodes: &Nodes<'s>,
-    target: &'s Tree,
-    guarded: bool,
-    context: &Context<'s>,
-    value: &Val,
-    rest: &Rest<'s>,
-    into: &mut Vec<Val>,
-) -> Result<(), Stop>
-    requires scope { ScopeFits (count_of nodes.now) context.now.scope.now }
-    requires rest { RestFits (count_of nodes.now) rest.now }
-    ensures { GathersOf nodes.now context.now (form.iterate (named target.now) guarded) (view value.now) rest.now result into.old.items into.new.items }
-{
-    match get(alloc, nodes, target, context, value) {
-        Ok(found) => {
-            let parts = run(alloc, Operation::EveryPart(guarded), Item::plain(found))?;
-            give_outputs(alloc, nodes, parts, rest, context.fuel, into)
-        }
-        Err(stop) => ended(stop),
-    }
-}
-
-// `f | g`.
-#[cycle(single)]
-#[inline(never)]
-fn gather_pipe<'s>(
-    alloc: Global,
-    nodes: &Nodes<'s>,
-    first: &'s Tree,
-    second: &'s Tree,
-    context: &Context<'s>,
-    value: &Val,
-    rest: &Rest<'s>,
-    into: &mut Vec<Val>,
-) -> Result<(), Stop>
-    requires scope { ScopeFits (count_of nodes.now) context.now.scope.now }
-    requires rest { RestFits (count_of nodes.now) rest.now }
-    ensures { GathersOf nodes.now context.now (form.pipe (named first.now) (named second.now)) (view value.now) rest.now result into.old.items into.new.items }
-{
-    let next = Rest::Then(&*second, &*context, &*rest);
-    gather(alloc, &*nodes, &*first, &*context, value, &next, into)
-}
-
-// `f, g`.
-#[cycle(single)]
-#[inline(never)]
-fn gather_comma<'s>(
-    alloc: Global,
-    nodes: &Nodes<'s>,
-    first: &'s Tree,
-    second: &'s Tree,
-    context: &Context<'s>,
-    value: &Val,
-    rest: &Rest<'s>,
-    into: &mut Vec<Val>,
-) -> Result<(), Stop>
-    requires scope { ScopeFits (count_of nodes.now) context.now.scope.now }
-    requires rest { RestFits (count_of nodes.now) rest.now }
-    ensures { GathersOf nodes.now context.now (form.comma (named first.now) (named second.now)) (view value.now) rest.now result into.old.items into.new.items }
-{
-    match gather(alloc, nodes, first, context, value, rest, into) {
-        Ok(()) => gather(alloc, nodes, second, context, value, rest, into),
-        Err(stop) => Err(stop),
-    }
-}
-
-// `if f then g else h end`.
-#[cycle(single)]
-#[inline(never)]
-fn gather_choice<'s>(
-    alloc: Global,
-    nodes: &Nodes<'s>,
-    condition: &'s Tree,
-    holds: &'s Tree,
-    fails: &'s Tree,
-    context: &Context<'s>,
-    value: &Val,
-    rest: &Rest<'s>,
-    into: &mut Vec<Val>,
-) -> Result<(), Stop>
-    requires scope { ScopeFits (count_of nodes.now) context.now.scope.now }
-    requires rest { RestFits (count_of nodes.now) rest.now }
-    ensures { GathersOf nodes.now context.now (form.choice (named condition.now) (named holds.now) (named fails.now)) (view value.now) rest.now result into.old.items into.new.items }
-{
-    match get(alloc, nodes, condition, context, value) {
-        Ok(test) => {
-            if truth(&test) {
-                gather(alloc, nodes, holds, context, value, rest, into)
-            } else {
-                gather(alloc, nodes, fails, context, value, rest, into)
+            Tree::Field(target, key, guarded) if item.path.is_present() => {
+                self.gather_field(target, key, *guarded, item, rest, into)
             }
-        }
-        Err(stop) => ended(stop),
-    }
-}
-
-// `f as $x | g`, where f may have several outputs.
-#[cycle(single)]
-#[inline(never)]
-fn gather_binding<'s>(
-    alloc: Global,
-    nodes: &Nodes<'s>,
-    source: &'s Tree,
-    pattern: &'s Pattern,
-    body: &'s Tree,
-    context: &Context<'s>,
-    value: &Val,
-    rest: &Rest<'s>,
-    into: &mut Vec<Val>,
-) -> Result<(), Stop>
-    requires scope { ScopeFits (count_of nodes.now) context.now.scope.now }
-    requires rest { RestFits (count_of nodes.now) rest.now }
-    ensures { GathersOf nodes.now context.now (form.bind_as (named source.now) (named_as_pattern pattern.now) (named body.now)) (view value.now) rest.now result into.old.items into.new.items }
-{
-    match pattern {
-        Pattern::Whole(name) => {
-            let next = Rest::Bind(&*name, &*body, &*context, &*value, &*rest);
-            gather(alloc, &*nodes, &*source, &*context, value, &next, into)
-        }
-        _ => Err(Stop::Unknown),
-    }
-}
-
-// `def a(b): f; g`.
-#[cycle(single)]
-#[inline(never)]
-fn gather_define<'s>(
-    alloc: Global,
-    nodes: &Nodes<'s>,
-    function: &'s Function<Tree>,
-    later: &'s Tree,
-    context: &Context<'s>,
-    value: &Val,
-    rest: &Rest<'s>,
-    into: &mut Vec<Val>,
-) -> Result<(), Stop>
-    requires scope { ScopeFits (count_of nodes.now) context.now.scope.now }
-    requires rest { RestFits (count_of nodes.now) rest.now }
-    ensures { GathersOf nodes.now context.now (form.define (text_of function.now.name) (map text_of function.now.parameters.items) (named function.now.body) (named later.now)) (view value.now) rest.now result into.old.items into.new.items }
-{
-    let scope = Scope::Function(&*context.scope, &*function);
-    let inside = Context {
-        scope: &scope,
-        depth: context.depth,
-        fuel: context.fuel,
-    };
-    gather(alloc, &*nodes, &*later, &inside, value, &*rest, into)
-}
-
-// `a(f; g)`: a call of a function, of a filter that was passed, or of a name of the language.
-#[cycle(single)]
-#[inline(never)]
-fn gather_call<'s>(
-    alloc: Global,
-    nodes: &Nodes<'s>,
-    name: &Name,
-    arguments: &'s [Tree],
-    context: &Context<'s>,
-    value: &Val,
-    rest: &Rest<'s>,
-    into: &mut Vec<Val>,
-) -> Result<(), Stop>
-    requires scope { ScopeFits (count_of nodes.now) context.now.scope.now }
-    requires rest { RestFits (count_of nodes.now) rest.now }
-    ensures { GathersOf nodes.now context.now (form.call (name_of name.now) (trees_of (map named arguments.now))) (view value.now) rest.now result into.old.items into.new.items }
-{
-    match callee_of(nodes, context.scope, name, arguments.len()) {
-        Found::Function(function, own) => {
-            let parameters = function.parameters.as_slice();
-            let body = &function.body;
-            gather_function(
-                alloc, nodes, parameters, arguments, body, &own, context, value, rest, into,
-            )
-        }
-        Found::Closure(body, own) => {
-            gather_body(alloc, nodes, body, &own, context, value, rest, into)
-        }
-        Found::Nothing => {
-            let builtin = builtin_named(name.text.as_str(), arguments.len());
-            gather_builtin(alloc, nodes, builtin, arguments, context, value, rest, into)
-        }
-    }
-}
-
-// A call of the prelude's own function.
-#[cycle(single)]
-#[inline(never)]
-fn gather_prelude_call<'s>(
-    alloc: Global,
-    nodes: &Nodes<'s>,
-    name: &Name,
-    arguments: &'s [Tree],
-    context: &Context<'s>,
-    value: &Val,
-    rest: &Rest<'s>,
-    into: &mut Vec<Val>,
-) -> Result<(), Stop>
-    requires scope { ScopeFits (count_of nodes.now) context.now.scope.now }
-    requires rest { RestFits (count_of nodes.now) rest.now }
-    ensures { GathersOf nodes.now context.now (form.prelude_call (name_of name.now) (trees_of (map named arguments.now))) (view value.now) rest.now result into.old.items into.new.items }
-{
-    match prelude_of(nodes, context.scope, name, arguments.len()) {
-        Found::Function(function, own) => {
-            let parameters = function.parameters.as_slice();
-            let body = &function.body;
-            gather_function(
-                alloc, nodes, parameters, arguments, body, &own, context, value, rest, into,
-            )
-        }
-        _ => Err(Stop::Unknown),
-    }
-}
-
-// Runs the body of a function in its own scope; the arguments see the caller's bindings.
-#[cycle(single)]
-#[inline(never)]
-fn gather_function<'s>(
-    alloc: Global,
-    nodes: &Nodes<'s>,
-    parameters: &'s [String],
-    arguments: &'s [Tree],
-    body: &'s Tree,
-    own: &Scope<'s>,
-    context: &Context<'s>,
-    value: &Val,
-    rest: &Rest<'s>,
-    into: &mut Vec<Val>,
-) -> Result<(), Stop>
-    requires own { ScopeFits (count_of nodes.now) own.now }
-    requires scope { ScopeFits (count_of nodes.now) context.now.scope.now }
-    requires rest { RestFits (count_of nodes.now) rest.now }
-    ensures { GathersFunction nodes.now context.now (map text_of parameters.now) (trees_of (map named arguments.now)) (named body.now) own.now (view value.now) rest.now result into.old.items into.new.items }
-{
-    match parameters {
-        [] => gather_body(alloc, nodes, body, own, context, value, rest, into),
-        [parameter, later @ ..] => {
-            match arguments {
-                [argument, others @ ..] => {
-                    let bound = Scope::Closure(&*own, &*parameter, &*argument, &*context.scope);
-                    gather_bound(
-                        alloc, &*nodes, &*later, &*others, &*body, &bound, &*context, value,
-                        &*rest, into,
-                    )
+            Tree::Index(target, key, guarded) if item.path.is_present() => {
+                self.gather_index(target, key, *guarded, item, rest, into)
+            }
+            Tree::Pipe(first, second) => {
+                if is_update(tree) {
+                    self.gather_one(tree, item, rest, into)
+                } else {
+                    self.gather_pipe(first, second, item, rest, into)
                 }
-                [] => Err(Stop::Unknown),
+            }
+            Tree::Comma(first, second) => self.gather_comma(first, second, item, rest, into),
+            Tree::Choice(condition, holds, fails) => {
+                self.gather_choice(condition, holds, fails, item, rest, into)
+            }
+            Tree::BindAs(source, pattern, body) => {
+                self.gather_binding(source, pattern, body, item, rest, into)
+            }
+            Tree::Define(function, later) => {
+                self.gather_define(function, later, item, rest, into)
+            }
+            Tree::Call(name, arguments) => {
+                let arguments = arguments.as_slice();
+                self.gather_call(name, arguments, item, rest, into)
+            }
+            Tree::PreludeCall(name, arguments) => {
+                let arguments = arguments.as_slice();
+                self.gather_prelude_call(name, arguments, item, rest, into)
+            }
+            _ => self.gather_one(tree, item, rest, into),
+        }
+    }
+
+    // A filter of at most one output. On an item with a path it is not run at once.
+    #[cycle(single)]
+    #[inline(never)]
+    fn gather_one(
+        &self,
+        tree: &'s Tree,
+        item: &Item,
+        rest: &Rest<'s>,
+        into: &mut Vec<Val>,
+    ) -> Result<(), Stop>
+        ensures { GathersOf self.now (named tree.now) (item_of item.now) rest.now result into.old.items into.new.items }
+    {
+        if item.path.is_present() {
+            return Err(Stop::Unknown);
+        }
+        match self.get(tree, &item.value) {
+            Ok(found) => {
+                let output = Item::plain(found);
+                self.give(&output, rest, into)
+            }
+            Err(stop) => ended(stop),
+        }
+    }
+
+    // `f[]`.
+    #[cycle(single)]
+    #[inline(never)]
+    fn gather_parts(
+        &self,
+        target: &'s Tree,
+        guarded: bool,
+        item: &Item,
+        rest: &Rest<'s>,
+        into: &mut Vec<Val>,
+    ) -> Result<(), Stop>
+        ensures { GathersOf self.now (form.iterate (named target.now) guarded) (item_of item.now) rest.now result into.old.items into.new.items }
+    {
+        let step = Step::Parts(guarded);
+        let next = Rest::Step(step, &*rest);
+        (&*self).gather(&*target, item, &next, into)
+    }
+
+    // `f | g`.
+    #[cycle(single)]
+    #[inline(never)]
+    fn gather_pipe(
+        &self,
+        first: &'s Tree,
+        second: &'s Tree,
+        item: &Item,
+        rest: &Rest<'s>,
+        into: &mut Vec<Val>,
+    ) -> Result<(), Stop>
+        ensures { GathersOf self.now (form.pipe (named first.now) (named second.now)) (item_of item.now) rest.now result into.old.items into.new.items }
+    {
+        let next = Rest::Then(&*second, &*self, &*rest);
+        (&*self).gather(&*first, item, &next, into)
+    }
+
+    // `f, g`.
+    #[cycle(single)]
+    #[inline(never)]
+    fn gather_comma(
+        &self,
+        first: &'s Tree,
+        second: &'s Tree,
+        item: &Item,
+        rest: &Rest<'s>,
+        into: &mut Vec<Val>,
+    ) -> Result<(), Stop>
+        ensures { GathersOf self.now (form.comma (named first.now) (named second.now)) (item_of item.now) rest.now result into.old.items into.new.items }
+    {
+        match self.gather(first, item, rest, into) {
+            Ok(()) => self.gather(second, item, rest, into),
+            Err(stop) => Err(stop),
+        }
+    }
+
+    // `if f then g else h end`.
+    #[cycle(single)]
+    #[inline(never)]
+    fn gather_choice(
+        &self,
+        condition: &'s Tree,
+        holds: &'s Tree,
+        fails: &'s Tree,
+        item: &Item,
+        rest: &Rest<'s>,
+        into: &mut Vec<Val>,
+    ) -> Result<(), Stop>
+        ensures { GathersOf self.now (form.choice (named condition.now) (named holds.now) (named fails.now)) (item_of item.now) rest.now result into.old.items into.new.items }
+    {
+        match self.get(condition, &item.value) {
+            Ok(test) => {
+                if truth(&test) {
+                    self.gather(holds, item, rest, into)
+                } else {
+                    self.gather(fails, item, rest, into)
+                }
+            }
+            Err(stop) => ended(stop),
+        }
+    }
+
+    // `f as $x | g`, where f may have several outputs.
+    #[cycle(single)]
+    #[inline(never)]
+    fn gather_binding(
+        &self,
+        source: &'s Tree,
+        pattern: &'s Pattern,
+        body: &'s Tree,
+        item: &Item,
+        rest: &Rest<'s>,
+        into: &mut Vec<Val>,
+    ) -> Result<(), Stop>
+        ensures { GathersOf self.now (form.bind_as (named source.now) (named_as_pattern pattern.now) (named body.now)) (item_of item.now) rest.now result into.old.items into.new.items }
+    {
+        match pattern {
+            Pattern::Whole(name) => {
+                let input = Item::plain(item.value.copy()?);
+                let next = Rest::Bind(&*name, &*body, &*self, &*item, &*rest);
+                (&*self).gather(&*source, &input, &next, into)
+            }
+            _ => Err(Stop::Unknown),
+        }
+    }
+
+    // `def a(b): f; g`.
+    #[cycle(single)]
+    #[inline(never)]
+    fn gather_define(
+        &self,
+        function: &'s Function<Tree>,
+        later: &'s Tree,
+        item: &Item,
+        rest: &Rest<'s>,
+        into: &mut Vec<Val>,
+    ) -> Result<(), Stop>
+        ensures { GathersOf self.now (form.define (text_of function.now.name) (map text_of function.now.parameters.items) (named function.now.body) (named later.now)) (item_of item.now) rest.now result into.old.items into.new.items }
+    {
+        let scope = Scope::Function(&*self.scope, &*function);
+        let inside = Context {
+            alloc: self.alloc,
+            scope: &scope,
+            depth: self.depth,
+            fuel: self.fuel,
+            kept: self.kept,
+        };
+        inside.gather(&*later, item, &*rest, into)
+    }
+
+    // `a(f; g)`: a call of a function, of a filter that was passed, or of a name of the language.
+    #[cycle(single)]
+    #[inline(never)]
+    fn gather_call(
+        &self,
+        name: &Name,
+        arguments: &'s [Tree],
+        item: &Item,
+        rest: &Rest<'s>,
+        into: &mut Vec<Val>,
+    ) -> Result<(), Stop>
+        ensures { GathersOf self.now (form.call (name_of name.now) (trees_of (map named arguments.now))) (item_of item.now) rest.now result into.old.items into.new.items }
+    {
+        match callee_of(self.scope, name, arguments.len()) {
+            Found::Function(function, own) => {
+                self.gather_function(function, &own, arguments, item, rest, into)
+            }
+            Found::Closure(body, own) => self.gather_body(body, &own, item, rest, into),
+            Found::Nothing => {
+                let builtin = builtin_named(name.text.as_str(), arguments.len());
+                self.gather_builtin(builtin, arguments, item, rest, into)
             }
         }
     }
-}
 
-// The same with the first arguments bound.
-#[cycle(single)]
-#[inline(always)]
-fn gather_bound<'s>(
-    alloc: Global,
-    nodes: &Nodes<'s>,
-    parameters: &'s [String],
-    arguments: &'s [Tree],
-    body: &'s Tree,
-    own: &Scope<'s>,
-    context: &Context<'s>,
-    value: &Val,
-    rest: &Rest<'s>,
-    into: &mut Vec<Val>,
-) -> Result<(), Stop>
-    requires own { ScopeFits (count_of nodes.now) own.now }
-    requires scope { ScopeFits (count_of nodes.now) context.now.scope.now }
-    requires rest { RestFits (count_of nodes.now) rest.now }
-    ensures { GathersFunction nodes.now context.now (map text_of parameters.now) (trees_of (map named arguments.now)) (named body.now) own.now (view value.now) rest.now result into.old.items into.new.items }
-{
-    if context.fuel == 0 {
-        return Err(Stop::Unknown);
+    // A call of the prelude's own function.
+    #[cycle(single)]
+    #[inline(never)]
+    fn gather_prelude_call(
+        &self,
+        name: &Name,
+        arguments: &'s [Tree],
+        item: &Item,
+        rest: &Rest<'s>,
+        into: &mut Vec<Val>,
+    ) -> Result<(), Stop>
+        ensures { GathersOf self.now (form.prelude_call (name_of name.now) (trees_of (map named arguments.now))) (item_of item.now) rest.now result into.old.items into.new.items }
+    {
+        match prelude_of(self.scope, name, arguments.len()) {
+            Found::Function(function, own) => {
+                self.gather_function(function, &own, arguments, item, rest, into)
+            }
+            _ => Err(Stop::Unknown),
+        }
     }
-    let inside = Context {
-        scope: context.scope,
-        depth: context.depth,
-        fuel: context.fuel - 1,
-    };
-    gather_function(
-        alloc, nodes, parameters, arguments, body, own, &inside, value, rest, into,
-    )
-}
 
-// Runs a body in its own scope, with a call depth that is smaller by one.
-#[cycle(single)]
-fn gather_body<'s>(
-    alloc: Global,
-    nodes: &Nodes<'s>,
-    body: &'s Tree,
-    own: &Scope<'s>,
-    context: &Context<'s>,
-    value: &Val,
-    rest: &Rest<'s>,
-    into: &mut Vec<Val>,
-) -> Result<(), Stop>
-    requires own { ScopeFits (count_of nodes.now) own.now }
-    requires rest { RestFits (count_of nodes.now) rest.now }
-    ensures { GathersBelow nodes.now own.now context.now.depth (named body.now) (view value.now) rest.now result into.old.items into.new.items }
-{
-    if context.depth == 0 {
-        return Err(Stop::Unknown);
+    // Runs the body of a function, with a call depth that is smaller by one. The arguments see the caller's bindings.
+    #[cycle(single)]
+    fn gather_function(
+        &self,
+        function: &'s Function<Tree>,
+        own: &Scope<'s>,
+        arguments: &'s [Tree],
+        item: &Item,
+        rest: &Rest<'s>,
+        into: &mut Vec<Val>,
+    ) -> Result<(), Stop>
+        ensures { GathersFunction self.now function.now own.now (trees_of (map named arguments.now)) (item_of item.now) rest.now result into.old.items into.new.items }
+    {
+        if self.depth == 0 {
+            return Err(Stop::Unknown);
+        }
+        let scope = Scope::Call(&*own, &*function, &*arguments, &*self.scope);
+        let inside = Context {
+            alloc: self.alloc,
+            scope: &scope,
+            depth: self.depth - 1,
+            fuel: self.fuel,
+            kept: self.kept,
+        };
+        inside.gather(&function.body, item, &*rest, into)
     }
-    let inside = Context {
-        scope: &*own,
-        depth: context.depth - 1,
-        fuel: context.fuel,
-    };
-    gather(alloc, &*nodes, &*body, &inside, value, &*rest, into)
-}
 
-// A name of the language.
-#[cycle(single)]
-#[inline(never)]
-fn gather_builtin<'s>(
-    alloc: Global,
-    nodes: &Nodes<'s>,
-    builtin: Builtin,
-    arguments: &'s [Tree],
-    context: &Context<'s>,
-    value: &Val,
-    rest: &Rest<'s>,
-    into: &mut Vec<Val>,
-) -> Result<(), Stop>
-    requires scope { ScopeFits (count_of nodes.now) context.now.scope.now }
-    requires rest { RestFits (count_of nodes.now) rest.now }
-    ensures { GathersBuiltin nodes.now context.now (meaning_of builtin) (trees_of (map named arguments.now)) (view value.now) rest.now result into.old.items into.new.items }
-{
-    match builtin {
-        Builtin::Range => gather_range(alloc, nodes, arguments, context, value, rest, into),
-        Builtin::Paths => gather_paths(alloc, nodes, arguments, context, value, rest, into),
-        _ => match get_builtin(alloc, nodes, builtin, arguments, context, value) {
-            Ok(found) => give(alloc, nodes, &found, rest, context.fuel, into),
-            Err(stop) => ended(stop),
-        },
+    // Runs a body in its own scope, with a call depth that is smaller by one.
+    #[cycle(single)]
+    fn gather_body(
+        &self,
+        body: &'s Tree,
+        own: &Scope<'s>,
+        item: &Item,
+        rest: &Rest<'s>,
+        into: &mut Vec<Val>,
+    ) -> Result<(), Stop>
+        ensures { GathersBelow self.now own.now (named body.now) (item_of item.now) rest.now result into.old.items into.new.items }
+    {
+        if self.depth == 0 {
+            return Err(Stop::Unknown);
+        }
+        let inside = Context {
+            alloc: self.alloc,
+            scope: &*own,
+            depth: self.depth - 1,
+            fuel: self.fuel,
+            kept: self.kept,
+        };
+        inside.gather(&*body, item, &*rest, into)
+    }
+
+    // A name of the language. On an item with a path it is not run at once.
+    #[cycle(single)]
+    #[inline(never)]
+    fn gather_builtin(
+        &self,
+        builtin: Builtin,
+        arguments: &'s [Tree],
+        item: &Item,
+        rest: &Rest<'s>,
+        into: &mut Vec<Val>,
+    ) -> Result<(), Stop>
+        ensures { GathersBuiltin self.now (meaning_of builtin) (trees_of (map named arguments.now)) (item_of item.now) rest.now result into.old.items into.new.items }
+    {
+        if item.path.is_present() {
+            return Err(Stop::Unknown);
+        }
+        match builtin {
+            Builtin::Range => self.gather_range(arguments, &item.value, rest, into),
+            Builtin::Paths => self.gather_paths(arguments, &item.value, rest, into),
+            _ => {
+                let mut output = item.value.copy()?;
+                let inside = Context {
+                    alloc: self.alloc,
+                    scope: self.scope,
+                    depth: self.depth,
+                    fuel: self.fuel,
+                    kept: true,
+                };
+                match inside.change_builtin(builtin, arguments, &mut output) {
+                    Ok(()) => {
+                        let found = Item::plain(output);
+                        self.give(&found, rest, into)
+                    }
+                    Err(stop) => ended(stop),
+                }
+            }
+        }
     }
 }

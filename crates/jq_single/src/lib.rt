@@ -3,7 +3,6 @@
 //! Entry: `apply`. Tests: the commands of `tests/`, `tests/random_filters.py`.
 #![tactic(auto)]
 
-mod bindings;
 mod calling;
 mod changing;
 mod choosing;
@@ -14,9 +13,7 @@ mod folding;
 mod gathering;
 mod getting;
 mod giving;
-mod locating;
 mod modifying;
-mod natives;
 mod objects;
 mod operators;
 mod paths;

@@ -6,20 +6,14 @@ ghost use Rattle.jv_value.specs.GetPath.{getpath_of};
 ghost use Rattle.jq_ast.specs.Named.{name_of, named};
 ghost use Rattle.jq_shapes.specs.Names.{HasTurn, HasUpdate};
 ghost use Rattle.jq_shapes.specs.Turn as shape;
-ghost use Rattle.jq_state.specs.Environments.{count_of};
 ghost use Rattle.jq_single.specs.Single.{Changed, Keeps};
 ghost use Rattle.jq_single.specs.private.Parts.{ChangesTo, RunsTo};
-ghost use Rattle.jq_single.specs.private.Scopes.{ScopeFits};
 ghost use Rattle.jq_single.specs.private.UpdateTurns.{Finishes, PutsAt, UpdatesAt, UpdatesOnce, without_parts};
 
-use crate::changing::{change_body, change_kept};
+use crate::calling::call_on;
 use crate::contexts::Context;
 use crate::finding::{Found, callee_of};
-use crate::folding::{may_copy, single_of};
-use crate::gathering::gather;
-use crate::getting::get;
-use crate::natives::call_on;
-use crate::rests::Rest;
+use crate::folding::single_of;
 use crate::scopes::Scope;
 use crate::states::take_state;
 use crate::stops::Stop;
@@ -27,34 +21,101 @@ use crate::turning::{check_natives, check_unbound};
 use jq_ast::Tree;
 use jq_natives::Native;
 use jq_shapes::Update;
-use jq_state::environments::Nodes;
 use jq_updates::one_path;
 use jv_data::{Array, Val};
 use jv_value::getpath;
 use std::alloc::{AllocError, Global};
 
-/// An update of a value that is kept: its fold changes a copy.
-#[cycle(single)]
-#[inline(never)]
-pub(crate) fn get_update<'s>(
-    alloc: Global,
-    nodes: &Nodes<'s>,
-    tree: &'s Tree,
-    update: Update<'s>,
-    context: &Context<'s>,
-    value: &Val,
-) -> Result<Val, Stop>
-    requires scope { ScopeFits (count_of nodes.now) context.now.scope.now }
-    requires update { HasUpdate (named tree.now) update }
-    ensures { RunsTo nodes.now context.now (named tree.now) (view value.now) result }
-{
-    check_unbound(nodes, context.scope, update.remover, 1)?;
-    if !may_copy(alloc, nodes, update.source, context, value) {
-        return Err(Stop::Unknown);
+impl<'s> Context<'s> {
+    /// An update of a value that is kept: its fold changes a copy.
+    #[cycle(single)]
+    #[inline(never)]
+    pub(crate) fn update(
+        &self,
+        tree: &'s Tree,
+        update: Update<'s>,
+        value: &Val,
+    ) -> Result<Val, Stop>
+        requires { HasUpdate (named tree.now) update }
+        ensures { RunsTo self.now (named tree.now) (view value.now) result }
+    {
+        check_unbound(self.scope, update.remover, 1)?;
+        if !self.may_copy(update.source, value) {
+            return Err(Stop::Unknown);
+        }
+        match self.get(update.fold, value) {
+            Ok(state) => finished(self.alloc, state),
+            Err(stop) => Err(stop),
+        }
     }
-    match get(alloc, nodes, update.fold, context, value) {
-        Ok(state) => finished(alloc, state),
-        Err(stop) => Err(stop),
+
+    /// An update. At one path the value is changed in place; at several a copy is, since a later turn may be one that is not
+    /// run at once.
+    #[cycle(single)]
+    #[inline(never)]
+    pub(crate) fn change_update(
+        &self,
+        tree: &'s Tree,
+        update: Update<'s>,
+        value: &mut Val,
+    ) -> Result<(), Stop>
+        requires { HasUpdate (named tree.now) update }
+        ensures runs { ChangesTo self.now (named tree.now) (view value.old) (view value.new) result }
+        ensures keeps { Keeps result (view value.old) (view value.new) }
+    {
+        let mut paths = Vec::new(self.alloc);
+        match self.gather_source(update.source, value, 2, &mut paths) {
+            Ok(()) => match single_of(paths.as_slice()) {
+                Some(path) => self.change_at(update, path, value),
+                None => self.change_kept(tree, value),
+            },
+            Err(_stop) => self.change_kept(tree, value),
+        }
+    }
+
+    // An update at one path.
+    #[cycle(single)]
+    fn change_at(&self, update: Update<'s>, path: &Val, value: &mut Val) -> Result<(), Stop>
+        requires names { HasTurn shape.turn shape.turn update.turn }
+        requires remover { name_of update.remover.now ≡ codes "delpaths" }
+        ensures runs { UpdatesOnce self.now (view path.now) (view value.old) (view value.new) result }
+        ensures keeps { Keeps result (view value.old) (view value.new) }
+    {
+        match callee_of(self.scope, update.turn.source.filter, 0) {
+            Found::Closure(body, own) => {
+                check_natives(self.scope, &update.turn)?;
+                check_unbound(self.scope, update.remover, 1)?;
+                self.change_part(body, &own, path, value)
+            }
+            _ => Err(Stop::Unknown),
+        }
+    }
+
+    // The part at a path becomes the output of the filter that was passed. Without output it is deleted.
+    #[cycle(single)]
+    fn change_part(
+        &self,
+        body: &'s Tree,
+        own: &Scope<'s>,
+        path: &Val,
+        value: &mut Val,
+    ) -> Result<(), Stop>
+        ensures runs { UpdatesAt (view path.now) (named body.now) own.now self.now.depth (view value.old) (view value.new) result }
+        ensures keeps { Keeps result (view value.old) (view value.new) }
+    {
+        let Val::List(keys) = path else {
+            return Err(Stop::Unknown);
+        };
+        match part_under(self.alloc, value, keys.as_slice()) {
+            Some(mut part) => match self.change_body(body, own, &mut part) {
+                Ok(()) => put_at(self.alloc, value, path, part),
+                Err(Stop::Nothing) => delete_at(self.alloc, value, path),
+                Err(Stop::Raised(error)) => Err(Stop::Raised(error)),
+                Err(Stop::NoMemory) => Err(Stop::NoMemory),
+                Err(Stop::Unknown) => Err(Stop::Unknown),
+            },
+            None => Err(Stop::Unknown),
+        }
     }
 }
 
@@ -67,95 +128,6 @@ fn finished(alloc: Global, state: Val) -> Result<Val, Stop>
     match call_on(alloc, Native::DelPaths, &mut value, &[paths]) {
         Ok(()) => Ok(value),
         Err(stop) => Err(stop),
-    }
-}
-
-/// An update. At one path the value is changed in place; at several a copy is, since a later turn may be one that is not
-/// run at once.
-#[cycle(single)]
-#[inline(never)]
-pub(crate) fn change_update<'s>(
-    alloc: Global,
-    nodes: &Nodes<'s>,
-    tree: &'s Tree,
-    update: Update<'s>,
-    context: &Context<'s>,
-    value: &mut Val,
-) -> Result<(), Stop>
-    requires scope { ScopeFits (count_of nodes.now) context.now.scope.now }
-    requires update { HasUpdate (named tree.now) update }
-    ensures runs { ChangesTo nodes.now context.now (named tree.now) (view value.old) (view value.new) result }
-    ensures keeps { Keeps result (view value.old) (view value.new) }
-{
-    let mut paths = Vec::new(alloc);
-    let end = Rest::End(2);
-    let tried = Context {
-        scope: context.scope,
-        depth: context.depth,
-        fuel: context.fuel / 2,
-    };
-    match gather(alloc, nodes, update.source, &tried, value, &end, &mut paths) {
-        Ok(()) => match single_of(paths.as_slice()) {
-            Some(path) => change_at(alloc, nodes, update, path, context, value),
-            None => change_kept(alloc, nodes, tree, context, value),
-        },
-        Err(_stop) => change_kept(alloc, nodes, tree, context, value),
-    }
-}
-
-// An update at one path.
-#[cycle(single)]
-fn change_at<'s>(
-    alloc: Global,
-    nodes: &Nodes<'s>,
-    update: Update<'s>,
-    path: &Val,
-    context: &Context<'s>,
-    value: &mut Val,
-) -> Result<(), Stop>
-    requires scope { ScopeFits (count_of nodes.now) context.now.scope.now }
-    requires names { HasTurn shape.turn shape.turn update.turn }
-    requires remover { name_of update.remover.now ≡ codes "delpaths" }
-    ensures runs { UpdatesOnce nodes.now context.now (view path.now) (view value.old) (view value.new) result }
-    ensures keeps { Keeps result (view value.old) (view value.new) }
-{
-    match callee_of(nodes, context.scope, update.turn.source.filter, 0) {
-        Found::Closure(body, own) => {
-            check_natives(nodes, context.scope, &update.turn)?;
-            check_unbound(nodes, context.scope, update.remover, 1)?;
-            change_part(alloc, nodes, body, &own, path, context, value)
-        }
-        _ => Err(Stop::Unknown),
-    }
-}
-
-// The part at a path becomes the output of the filter that was passed. Without output it is deleted.
-#[cycle(single)]
-fn change_part<'s>(
-    alloc: Global,
-    nodes: &Nodes<'s>,
-    body: &'s Tree,
-    own: &Scope<'s>,
-    path: &Val,
-    context: &Context<'s>,
-    value: &mut Val,
-) -> Result<(), Stop>
-    requires { ScopeFits (count_of nodes.now) own.now }
-    ensures runs { UpdatesAt nodes.now (view path.now) (named body.now) own.now context.now.depth (view value.old) (view value.new) result }
-    ensures keeps { Keeps result (view value.old) (view value.new) }
-{
-    let Val::List(keys) = path else {
-        return Err(Stop::Unknown);
-    };
-    match part_under(alloc, value, keys.as_slice()) {
-        Some(mut part) => match change_body(alloc, nodes, body, own, context, &mut part) {
-            Ok(()) => put_at(alloc, value, path, part),
-            Err(Stop::Nothing) => delete_at(alloc, value, path),
-            Err(Stop::Raised(error)) => Err(Stop::Raised(error)),
-            Err(Stop::NoMemory) => Err(Stop::NoMemory),
-            Err(Stop::Unknown) => Err(Stop::Unknown),
-        },
-        None => Err(Stop::Unknown),
     }
 }
 

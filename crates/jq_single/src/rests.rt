@@ -1,7 +1,17 @@
 // The rest of a filter that runs on the outputs of its first part.
 use crate::contexts::Context;
-use jq_ast::Tree;
+use jq_ast::{Key, Tree};
+use jq_state::items::Item;
 use jv_data::Val;
+
+/// A step to a part of an item, to all of its parts, or to its path.
+#[derive(Clone, Copy)]
+pub(crate) enum Step<'s> {
+    Field(&'s Key, bool),
+    At(&'s Val, bool),
+    Parts(bool),
+    Path,
+}
 
 /// What is done with each output of the first part.
 #[derive(Clone, Copy)]
@@ -11,7 +21,9 @@ pub(crate) enum Rest<'s> {
     /// Runs a filter on it, and the rest on that filter's outputs.
     Then(&'s Tree, &'s Context<'s>, &'s Rest<'s>),
     /// Binds it to a variable, runs a filter on another input, and the rest on that filter's outputs.
-    Bind(&'s String, &'s Tree, &'s Context<'s>, &'s Val, &'s Rest<'s>),
+    Bind(&'s String, &'s Tree, &'s Context<'s>, &'s Item, &'s Rest<'s>),
+    /// Takes a step, and runs the rest on where it leads to.
+    Step(Step<'s>, &'s Rest<'s>),
     /// Binds it to a variable, and runs the update of a fold on the state.
     Fold(&'s String, &'s Tree, &'s Context<'s>),
 }

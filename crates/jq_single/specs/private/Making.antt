@@ -6,11 +6,9 @@ use Rattle.jv_meaning.specs.Text.{text_of}
 use Rattle.jv_data.specs.declared.containers.texts.SharedText.{SharedText}
 use Rattle.jv_data.specs.declared.values.Val.{Val}
 use Rattle.jq_tree.specs.Tree.{Name, Tree, Entries, Pieces}
-use Rattle.jq_meaning.specs.Continuations.{on_entry, on_inserted, with_key}
+use Rattle.jq_meaning.specs.Continuations.{on_entry}
 use Rattle.jq_meaning.specs.Meaning.{below, entries_with, pieces_with}
 use Rattle.jq_meaning.specs.Runs.{Item, plain, Run, one, bind}
-use Rattle.jq_state.specs.Environments.{envs_of}
-use Rattle.jq_state.specs.declared.environments.Nodes.{Nodes}
 use Rattle.jq_single.specs.Single.{Ends}
 use Rattle.jq_single.specs.private.Parts.{Answers, run}
 use Rattle.jq_single.specs.private.Scopes.{scope_env}
@@ -20,21 +18,16 @@ use Rattle.jq_single.specs.declared.stops.Stop.{Stop}
 -- ---- objects
 
 -- The run of the remaining entries of an object that is made so far.
-abbrev pub entries_in : Nodes → Context → Run Value → (level : ℕ) → Entries → Value → Members → Run Item
-entries_in ns p inputs level es v made = entries_with (below p.depth) es (scope_env (envs_of inputs ns) p.scope.now) level v made
+abbrev pub entries_in : Context → Run Value → (level : ℕ) → Entries → Value → Members → Run Item
+entries_in p inputs level es v made = entries_with (below p.depth) es (scope_env inputs p.scope.now) level v made
 
-abbrev pub RunsEntries : Nodes → Context → Entries → (made : Members) → Value → Result Val Stop → Type 0
-RunsEntries ns p es made v result = (inputs : Run Value) (level : ℕ) → Answers result (entries_in ns p inputs level es v made)
+abbrev pub RunsEntries : Context → Entries → (made : Members) → Value → Result Val Stop → Type 0
+RunsEntries p es made v result = (inputs : Run Value) (level : ℕ) → Answers result (entries_in p inputs level es v made)
 
 -- The same after an entry whose key is known.
-abbrev pub RunsMember : Nodes → Context → (key : List ℕ) → (filter : Tree) → Entries → (made : Members) → Value → Result Val Stop → Type 0
-RunsMember ns p key t es made v result =
-    (inputs : Run Value) (level : ℕ) → Answers result (bind (run ns p inputs level t (plain v)) (on_entry (entries_in ns p inputs level es v) made key))
-
--- The same after an entry whose key was computed.
-abbrev pub RunsKeyed : Nodes → Context → (key : Value) → (filter : Tree) → Entries → (made : Members) → Value → Result Val Stop → Type 0
-RunsKeyed ns p key t es made v result =
-    (inputs : Run Value) (level : ℕ) → Answers result (with_key (run ns p inputs level t (plain v)) (entries_in ns p inputs level es v) made key)
+abbrev pub RunsMember : Context → (key : List ℕ) → (filter : Tree) → Entries → (made : Members) → Value → Result Val Stop → Type 0
+RunsMember p key t es made v result =
+    (inputs : Run Value) (level : ℕ) → Answers result (bind (run p inputs level t (plain v)) (on_entry (entries_in p inputs level es v) made key))
 
 -- ---- strings
 
@@ -43,10 +36,6 @@ abbrev pub TextAnswers : Result SharedText Stop → Run (List ℕ) → Type 0
 TextAnswers (Ok t) r = r ≡ one (text_of (string_in t))
 TextAnswers (Err s) r = Ends s r
 
-abbrev pub RunsPieces : Nodes → Context → (format : Name) → Pieces → Value → Result SharedText Stop → Type 0
-RunsPieces ns p format ps v result =
-    (inputs : Run Value) (level : ℕ) → TextAnswers result (pieces_with (below p.depth) ps format (scope_env (envs_of inputs ns) p.scope.now) level (plain v))
-
-abbrev pub RunsPiece : Nodes → Context → (format : Name) → (front : List ℕ) → (filter : Tree) → (back : List ℕ) → Value → Result SharedText Stop → Type 0
-RunsPiece ns p format front t back v result =
-    (inputs : Run Value) (level : ℕ) → TextAnswers result (bind (run ns p inputs level t (plain v)) (on_inserted format front back))
+abbrev pub RunsPieces : Context → (format : Name) → Pieces → Value → Result SharedText Stop → Type 0
+RunsPieces p format ps v result =
+    (inputs : Run Value) (level : ℕ) → TextAnswers result (pieces_with (below p.depth) ps format (scope_env inputs p.scope.now) level (plain v))

@@ -11,8 +11,6 @@ use Rattle.jq_meaning.specs.Env.{Env, bound, find_callee, no_callee, value_of}
 use Rattle.jq_meaning.specs.Folds.{next_state}
 use Rattle.jq_meaning.specs.Meaning.{meaning}
 use Rattle.jq_meaning.specs.Runs.{Item, Run, plain, value_in, one, bind}
-use Rattle.jq_state.specs.Environments.{envs_of}
-use Rattle.jq_state.specs.declared.environments.Nodes.{Nodes}
 use Rattle.jq_single.specs.Single.{Changed}
 use Rattle.jq_single.specs.declared.contexts.Context.{Context}
 use Rattle.jq_single.specs.declared.scopes.Scope.{Scope}
@@ -45,13 +43,13 @@ unfoldable pub turned : (depth : ℕ) → Env → (level : ℕ) → Value → Ru
 turned depth e level v = meaning depth turn e level (plain v)
 
 -- A turn with this path and this filter, which is called at a call depth.
-abbrev pub TurnsAt : {A : Type 0} → Nodes → (path : Value) → (body : Tree) → (own : Scope) → (depth : ℕ) → (before later : Value) → Result A Stop → Type 0
-TurnsAt ns path body own depth v w result =
-    (inputs : Run Value) (e : Env) (level : ℕ) → Around e path body (scope_env (envs_of inputs ns) own) → Changed result w (turned depth e level v)
+abbrev pub TurnsAt : {A : Type 0} → (path : Value) → (body : Tree) → (own : Scope) → (depth : ℕ) → (before later : Value) → Result A Stop → Type 0
+TurnsAt path body own depth v w result =
+    (inputs : Run Value) (e : Env) (level : ℕ) → Around e path body (scope_env inputs own) → Changed result w (turned depth e level v)
 
 -- A turn in a context.
-abbrev pub TurnsIn : {A : Type 0} → Nodes → Context → (before later : Value) → Result A Stop → Type 0
-TurnsIn ns p v w result = (inputs : Run Value) (level : ℕ) → Changed result w (turned p.depth (scope_env (envs_of inputs ns) p.scope.now) level v)
+abbrev pub TurnsIn : {A : Type 0} → Context → (before later : Value) → Result A Stop → Type 0
+TurnsIn p v w result = (inputs : Run Value) (level : ℕ) → Changed result w (turned p.depth (scope_env inputs p.scope.now) level v)
 
 -- ---- updates
 
@@ -64,14 +62,14 @@ unfoldable pub updated : (depth : ℕ) → (turns ends : Env) → (level : ℕ) 
 updated depth e f level v =
     bind (next_state (plain (state v (array (items_of [])))) (turned depth e level (state v (array (items_of [])))) one) (meaning depth finish f level)
 
-abbrev pub UpdatesAt : {A : Type 0} → Nodes → (path : Value) → (body : Tree) → (own : Scope) → (depth : ℕ) → (before later : Value) → Result A Stop → Type 0
-UpdatesAt ns path body own depth v w result =
-    (inputs : Run Value) (e f : Env) (level : ℕ) → Around e path body (scope_env (envs_of inputs ns) own) → find_callee (codes "delpaths") 1 f ≡ no_callee → Changed result w (updated depth e f level v)
+abbrev pub UpdatesAt : {A : Type 0} → (path : Value) → (body : Tree) → (own : Scope) → (depth : ℕ) → (before later : Value) → Result A Stop → Type 0
+UpdatesAt path body own depth v w result =
+    (inputs : Run Value) (e f : Env) (level : ℕ) → Around e path body (scope_env inputs own) → find_callee (codes "delpaths") 1 f ≡ no_callee → Changed result w (updated depth e f level v)
 
-abbrev pub UpdatesOnce : {A : Type 0} → Nodes → Context → (path : Value) → (before later : Value) → Result A Stop → Type 0
-UpdatesOnce ns p path v w result =
+abbrev pub UpdatesOnce : {A : Type 0} → Context → (path : Value) → (before later : Value) → Result A Stop → Type 0
+UpdatesOnce p path v w result =
     (inputs : Run Value) (level : ℕ) →
-    Changed result w (updated p.depth (bound (value_of (codes "p") path) (scope_env (envs_of inputs ns) p.scope.now)) (scope_env (envs_of inputs ns) p.scope.now) level v)
+    Changed result w (updated p.depth (bound (value_of (codes "p") path) (scope_env inputs p.scope.now)) (scope_env inputs p.scope.now) level v)
 
 -- A part is put at a path; no part is deleted.
 abbrev pub PutsAt : {A : Type 0} → (path part : Value) → (before later : Value) → Result A Stop → Type 0

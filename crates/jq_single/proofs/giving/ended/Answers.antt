@@ -6,4 +6,4 @@ use Rattle.jq_single.proofs.Gathered.{gathers-fail}
 use Rattle.jq_single.proofs.giving.ended.Goals as goal
 
 pub returns-in-Raised : goal.returns-in-Raised
-returns-in-Raised c = λ ns inputs level later r xs e q. gathers-fail ns inputs level later xs (view c.in-Raised.error) r (subst (λ (s : Stop). Ends s r) c.in-Raised.is e) q
+returns-in-Raised c = λ inputs level later r xs e q. gathers-fail inputs level later xs (view c.in-Raised.error) r (subst (λ (s : Stop). Ends s r) c.in-Raised.is e) q

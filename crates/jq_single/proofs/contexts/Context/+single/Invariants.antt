@@ -1,0 +1,265 @@
+use Rattle.std.proofs.Common.{ℕ, ◌+◌, ◌*◌, pos, List, length, Result}
+use Rattle.jv_meaning.specs.Value.{Value}
+use Rattle.jv_data.specs.declared.values.Val.{Val}
+use Rattle.jq_meaning.specs.Runs.{Run, bind}
+use Rattle.jq_meaning.specs.Builtins.{numbers_up_to}
+use Rattle.jq_single.specs.declared.stops.Stop.{Stop}
+use Rattle.jq_single.specs.private.Gathering.{Gathers, given_of, made, numbers_from, rest_run}
+use Rattle.jq_single.proofs.contexts.Context.+single.Given as goal
+
+-- the fuel, with an offset so that a helper has a smaller measure than its caller
+
+abbrev pub decreases-get : goal.decreases-get
+decreases-get l = 16 * l.self.now.fuel
+
+abbrev pub decreases-get_form : goal.decreases-get_form
+decreases-get_form l = 16 * l.self.now.fuel + 14
+
+abbrev pub decreases-get_changed : goal.decreases-get_changed
+decreases-get_changed l = 16 * l.self.now.fuel + 13
+
+abbrev pub decreases-field : goal.decreases-field
+decreases-field l = 16 * l.self.now.fuel + 3
+
+abbrev pub decreases-index : goal.decreases-index
+decreases-index l = 16 * l.self.now.fuel + 3
+
+abbrev pub decreases-slice : goal.decreases-slice
+decreases-slice l = 16 * l.self.now.fuel + 3
+
+abbrev pub decreases-pipe : goal.decreases-pipe
+decreases-pipe l = 16 * l.self.now.fuel + 3
+
+abbrev pub decreases-binary : goal.decreases-binary
+decreases-binary l = 16 * l.self.now.fuel + 3
+
+abbrev pub decreases-negation : goal.decreases-negation
+decreases-negation l = 16 * l.self.now.fuel + 3
+
+abbrev pub decreases-array : goal.decreases-array
+decreases-array l = 16 * l.self.now.fuel + 11
+
+abbrev pub decreases-and : goal.decreases-and
+decreases-and l = 16 * l.self.now.fuel + 4
+
+abbrev pub decreases-or : goal.decreases-or
+decreases-or l = 16 * l.self.now.fuel + 4
+
+abbrev pub decreases-get_truth : goal.decreases-get_truth
+decreases-get_truth l = 16 * l.self.now.fuel + 3
+
+abbrev pub decreases-alternative : goal.decreases-alternative
+decreases-alternative l = 16 * l.self.now.fuel + 3
+
+abbrev pub decreases-try_catch : goal.decreases-try_catch
+decreases-try_catch l = 16 * l.self.now.fuel + 3
+
+abbrev pub decreases-object : goal.decreases-object
+decreases-object l = 16 * l.self.now.fuel + 11
+
+abbrev pub decreases-entries : goal.decreases-entries
+decreases-entries l = 16 * l.self.now.fuel + 10
+
+abbrev pub decreases-entry : goal.decreases-entry
+decreases-entry l = 16 * l.self.now.fuel + 9
+
+abbrev pub decreases-computed : goal.decreases-computed
+decreases-computed l = 16 * l.self.now.fuel + 8
+
+abbrev pub decreases-member : goal.decreases-member
+decreases-member l = 16 * l.self.now.fuel + 7
+
+abbrev pub decreases-text : goal.decreases-text
+decreases-text l = 16 * l.self.now.fuel + 12
+
+abbrev pub decreases-pieces : goal.decreases-pieces
+decreases-pieces l = 16 * l.self.now.fuel + 11
+
+abbrev pub decreases-first_piece : goal.decreases-first_piece
+decreases-first_piece l = 16 * l.self.now.fuel + 10
+
+abbrev pub decreases-reduce : goal.decreases-reduce
+decreases-reduce l = 16 * l.self.now.fuel + 4
+
+abbrev pub decreases-may_copy : goal.decreases-may_copy
+decreases-may_copy l = 16 * l.self.now.fuel + 2
+
+abbrev pub decreases-gather_source : goal.decreases-gather_source
+decreases-gather_source l = 16 * l.self.now.fuel + 1
+
+abbrev pub decreases-fold : goal.decreases-fold
+decreases-fold l = 16 * l.self.now.fuel + 3
+
+abbrev pub decreases-update : goal.decreases-update
+decreases-update l = 16 * l.self.now.fuel + 5
+
+abbrev pub decreases-change : goal.decreases-change
+decreases-change l = 16 * l.self.now.fuel
+
+abbrev pub decreases-change_form : goal.decreases-change_form
+decreases-change_form l = 16 * l.self.now.fuel + 12
+
+abbrev pub decreases-change_kept : goal.decreases-change_kept
+decreases-change_kept l = 16 * l.self.now.fuel + 3
+
+abbrev pub decreases-change_after : goal.decreases-change_after
+decreases-change_after l = 16 * l.self.now.fuel + 9
+
+abbrev pub decreases-change_binary : goal.decreases-change_binary
+decreases-change_binary l = 16 * l.self.now.fuel + 4
+
+abbrev pub decreases-change_choice : goal.decreases-change_choice
+decreases-change_choice l = 16 * l.self.now.fuel + 3
+
+abbrev pub decreases-change_define : goal.decreases-change_define
+decreases-change_define l = 16 * l.self.now.fuel + 3
+
+abbrev pub decreases-change_binding : goal.decreases-change_binding
+decreases-change_binding l = 16 * l.self.now.fuel + 3
+
+abbrev pub decreases-change_call : goal.decreases-change_call
+decreases-change_call l = 16 * l.self.now.fuel + 11
+
+abbrev pub decreases-change_prelude_call : goal.decreases-change_prelude_call
+decreases-change_prelude_call l = 16 * l.self.now.fuel + 11
+
+abbrev pub decreases-change_function : goal.decreases-change_function
+decreases-change_function l = 16 * l.self.now.fuel + 5
+
+abbrev pub decreases-change_body : goal.decreases-change_body
+decreases-change_body l = 16 * l.self.now.fuel + 5
+
+abbrev pub decreases-change_builtin : goal.decreases-change_builtin
+decreases-change_builtin l = 16 * l.self.now.fuel + 10
+
+abbrev pub decreases-change_native : goal.decreases-change_native
+decreases-change_native l = 16 * l.self.now.fuel + 3
+
+abbrev pub decreases-change_to_path : goal.decreases-change_to_path
+decreases-change_to_path l = 16 * l.self.now.fuel + 9
+
+abbrev pub decreases-change_reduce : goal.decreases-change_reduce
+decreases-change_reduce l = 16 * l.self.now.fuel + 7
+
+abbrev pub decreases-change_fold : goal.decreases-change_fold
+decreases-change_fold l = 16 * l.self.now.fuel + 5
+
+abbrev pub decreases-change_copy : goal.decreases-change_copy
+decreases-change_copy l = 16 * l.self.now.fuel + 4
+
+abbrev pub decreases-step : goal.decreases-step
+decreases-step l = 16 * l.self.now.fuel + 2
+
+abbrev pub decreases-change_to_next : goal.decreases-change_to_next
+decreases-change_to_next l = 16 * l.self.now.fuel + 1
+
+abbrev pub decreases-turn : goal.decreases-turn
+decreases-turn l = 16 * l.self.now.fuel + 3
+
+abbrev pub decreases-change_update : goal.decreases-change_update
+decreases-change_update l = 16 * l.self.now.fuel + 8
+
+abbrev pub decreases-change_at : goal.decreases-change_at
+decreases-change_at l = 16 * l.self.now.fuel + 7
+
+abbrev pub decreases-change_part : goal.decreases-change_part
+decreases-change_part l = 16 * l.self.now.fuel + 6
+
+abbrev pub decreases-change_turn : goal.decreases-change_turn
+decreases-change_turn l = 16 * l.self.now.fuel + 8
+
+abbrev pub decreases-change_by_names : goal.decreases-change_by_names
+decreases-change_by_names l = 16 * l.self.now.fuel + 7
+
+abbrev pub decreases-run_turn : goal.decreases-run_turn
+decreases-run_turn l = 16 * l.self.now.fuel + 6
+
+abbrev pub decreases-gather : goal.decreases-gather
+decreases-gather l = 16 * l.self.now.fuel
+
+abbrev pub decreases-gather_form : goal.decreases-gather_form
+decreases-gather_form l = 16 * l.self.now.fuel + 14
+
+abbrev pub decreases-gather_one : goal.decreases-gather_one
+decreases-gather_one l = 16 * l.self.now.fuel + 6
+
+abbrev pub decreases-gather_parts : goal.decreases-gather_parts
+decreases-gather_parts l = 16 * l.self.now.fuel + 5
+
+abbrev pub decreases-gather_field : goal.decreases-gather_field
+decreases-gather_field l = 16 * l.self.now.fuel + 5
+
+abbrev pub decreases-gather_index : goal.decreases-gather_index
+decreases-gather_index l = 16 * l.self.now.fuel + 5
+
+abbrev pub decreases-gather_pipe : goal.decreases-gather_pipe
+decreases-gather_pipe l = 16 * l.self.now.fuel + 5
+
+abbrev pub decreases-gather_comma : goal.decreases-gather_comma
+decreases-gather_comma l = 16 * l.self.now.fuel + 5
+
+abbrev pub decreases-gather_choice : goal.decreases-gather_choice
+decreases-gather_choice l = 16 * l.self.now.fuel + 5
+
+abbrev pub decreases-gather_binding : goal.decreases-gather_binding
+decreases-gather_binding l = 16 * l.self.now.fuel + 5
+
+abbrev pub decreases-gather_define : goal.decreases-gather_define
+decreases-gather_define l = 16 * l.self.now.fuel + 5
+
+abbrev pub decreases-gather_call : goal.decreases-gather_call
+decreases-gather_call l = 16 * l.self.now.fuel + 12
+
+abbrev pub decreases-gather_prelude_call : goal.decreases-gather_prelude_call
+decreases-gather_prelude_call l = 16 * l.self.now.fuel + 12
+
+abbrev pub decreases-gather_function : goal.decreases-gather_function
+decreases-gather_function l = 16 * l.self.now.fuel + 5
+
+abbrev pub decreases-gather_body : goal.decreases-gather_body
+decreases-gather_body l = 16 * l.self.now.fuel + 5
+
+abbrev pub decreases-gather_builtin : goal.decreases-gather_builtin
+decreases-gather_builtin l = 16 * l.self.now.fuel + 11
+
+abbrev pub decreases-gather_range : goal.decreases-gather_range
+decreases-gather_range l = 16 * l.self.now.fuel + 8
+
+abbrev pub decreases-gather_paths : goal.decreases-gather_paths
+decreases-gather_paths l = 16 * l.self.now.fuel + 5
+
+abbrev pub decreases-give : goal.decreases-give
+decreases-give l = 16 * l.self.now.fuel + 4
+
+abbrev pub decreases-give_step : goal.decreases-give_step
+decreases-give_step l = 16 * l.self.now.fuel + 3
+
+abbrev pub decreases-give_outputs : goal.decreases-give_outputs
+decreases-give_outputs l = 16 * l.self.now.fuel + 7
+
+abbrev pub decreases-give_several : goal.decreases-give_several
+decreases-give_several l = 16 * l.self.now.fuel + 6
+
+abbrev pub decreases-give_range : goal.decreases-give_range
+decreases-give_range l = 16 * l.self.now.fuel + 6
+
+abbrev pub decreases-give_numbers : goal.decreases-give_numbers
+decreases-give_numbers l = 16 * l.self.now.fuel + 5
+
+-- ---- loops: the remaining items have the same result after what was added as all of them had at first
+
+abbrev pub invariant-give_several-loop-item : goal.invariant-give_several-loop-item
+invariant-give_several-loop-item l =
+    (inputs : Run Value) (level : ℕ) (a : Result (Unit {0}) Stop) (ys : List Val) → Gathers (made inputs level l.rest) a l.into.items ys (bind (given_of l.items.items) (rest_run inputs level l.rest))
+    → Gathers (made inputs level l.rest) a l.initial.into.items ys (bind (given_of l.initial.items.items) (rest_run inputs level l.rest))
+
+abbrev pub decreases-give_several-loop-item : goal.decreases-give_several-loop-item
+decreases-give_several-loop-item l = length l.items.items
+
+abbrev pub invariant-give_numbers-loop-value : goal.invariant-give_numbers-loop-value
+invariant-give_numbers-loop-value l =
+    (inputs : Run Value) (level : ℕ) (a : Result (Unit {0}) Stop) (ys : List Val) → Gathers (made inputs level l.rest) a l.into.items ys (bind (numbers_from l.next l.end) (rest_run inputs level l.rest))
+    → Gathers (made inputs level l.rest) a l.initial.into.items ys (bind (numbers_up_to l.first l.end (pos 1)) (rest_run inputs level l.rest))
+
+abbrev pub decreases-give_numbers-loop-value : goal.decreases-give_numbers-loop-value
+decreases-give_numbers-loop-value l = length (numbers_from l.next l.end).items
