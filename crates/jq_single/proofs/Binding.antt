@@ -1,5 +1,6 @@
 -- What is claimed of a run that goes on with another filter.
-use Rattle.std.proofs.Common.{◌≡◌, ◌∙◌, ℕ, List, Bool, true, false, IsTrue, Result, refl, sym, ap, subst}
+use Rattle.std.proofs.Common.{◌≡◌, ◌∙◌, ℕ, List, Bool, true, false, IsTrue, Result, Ok, Err, refl, sym, ap, subst}
+use Rattle.std.specs.Result.{IsErrAnd}
 use Rattle.jv_meaning.specs.Value.{Value, null, boolean, number, string, array, object}
 use Rattle.jv_data.specs.declared.values.Val.{Val}
 use Rattle.jq_ast.specs.Constants.{is_text}
@@ -12,7 +13,8 @@ use Rattle.jq_meaning.specs.Env.{Env, bound, value_of}
 use Rattle.jq_meaning.specs.Meaning.{Means, bindings_with}
 use Rattle.jq_meaning.specs.Runs.{Item, plain, Run, one, fail, bind, catch}
 use Rattle.jq_machine.proofs.RunLaws.{bind-one}
-use Rattle.jq_single.specs.Single.{Ends, Changed, Leaves}
+use Rattle.jq_single.specs.Single.{Ends, Changed, Keeps, Leaves}
+use Rattle.jq_single.specs.private.Gathering.{GoesOn}
 use Rattle.jv_data.specs.declared.containers.texts.SharedText.{SharedText}
 use Rattle.jq_single.specs.private.Making.{TextAnswers}
 use Rattle.jq_single.specs.private.Parts.{Answers, IsUntold}
@@ -42,12 +44,37 @@ untold (stop.Raised v) r h = absurd h
 untold stop.NoMemory r h = tt
 untold stop.Unknown r h = tt
 
+pub ends-after : {A B : Type 0} (s : Stop) (r : Run A) (x : A) (g : A → Run B) → r ≡ one x → Ends s (g x) → Ends s (bind r g)
+ends-after s r x g e = subst (Ends s) (sym (bind-known r x g e))
+
 -- a value that is not changed is kept
 pub leaves_same : (s : Stop) (v : Value) → Leaves s v v
 leaves_same stop.Nothing v = tt
 leaves_same (stop.Raised e) v = tt
 leaves_same stop.NoMemory v = tt
 leaves_same stop.Unknown v = refl
+
+-- an error of a part, after `?`
+pub stops : (a : Result Val Stop) (s : Stop) (r : Run Item) → IsErrAnd a (λ e. e ≡ s) → Ends s r → Answers a r
+stops (Ok v) s r h k = absurd h
+stops (Err e) s r h k = subst (λ z. Ends z r) (sym h) k
+
+pub text-stops : (a : Result SharedText Stop) (s : Stop) (r : Run (List ℕ)) → IsErrAnd a (λ e. e ≡ s) → Ends s r → TextAnswers a r
+text-stops (Ok v) s r h k = absurd h
+text-stops (Err e) s r h k = subst (λ z. Ends z r) (sym h) k
+
+pub changed-stops : {A : Type 0} (a : Result A Stop) (s : Stop) (w : Value) (r : Run Item) → IsErrAnd a (λ e. e ≡ s) → Ends s r → Changed a w r
+changed-stops (Ok v) s w r h k = absurd h
+changed-stops (Err e) s w r h k = subst (λ z. Ends z r) (sym h) k
+
+pub keeps-stops : {A : Type 0} (a : Result A Stop) (s : Stop) (v : Value) → IsErrAnd a (λ e. e ≡ s) → Keeps a v v
+keeps-stops (Ok d) s v h = absurd h
+keeps-stops (Err e) s v h = leaves_same e v
+
+-- the next state is the output
+pub goes-changed : {A : Type 0} (a : Result A Stop) (w : Value) (r : Run Item) → GoesOn a (one (plain w)) r → Changed a w r
+goes-changed (Ok d) w r h = h
+goes-changed (Err s) w r h = h
 
 -- ---- keys
 

@@ -6,7 +6,7 @@ use Rattle.jv_data.specs.View.{view}
 use Rattle.jv_data.specs.declared.values.Val.{Val}
 use Rattle.jq_natives.specs.Answers.{is_true}
 use Rattle.jq_meaning.specs.Continuations.{on_test, on_source, in_bindings}
-use Rattle.jq_tree.specs.Tree.{Name}
+use Rattle.jq_tree.specs.Tree.{Name, Tree}
 use Rattle.jq_tree.specs.Tree as tree
 use Rattle.jq_meaning.specs.Env.{Env, bound, value_of}
 use Rattle.jq_meaning.specs.Meaning.{Means, bindings_with}
@@ -15,7 +15,9 @@ use Rattle.jq_state.specs.Items.{item_of}
 use Rattle.jq_state.specs.declared.items.Item as items
 use Rattle.jq_machine.proofs.RunLaws.{bind-bind, bind-one, bind-one_right, bind-then_run, then_run-assoc, then_run-none}
 use Rattle.jq_single.specs.Single.{Ends}
-use Rattle.jq_single.specs.private.Gathering.{Gathers, given_of, made}
+use Rattle.jq_single.specs.private.Gathering.{Gathers, GathersAll, given_of, made, rest_run}
+use Rattle.jq_single.specs.private.Parts.{run}
+use Rattle.jq_single.specs.declared.contexts.Context.{Context}
 use Rattle.jq_single.specs.declared.rests.Rest.{Rest}
 use Rattle.jq_single.specs.declared.rests.Rest.TheVariants as rest
 use Rattle.jq_single.specs.declared.stops.Stop.{Stop}
@@ -57,6 +59,14 @@ gathered_list inputs level most d xs ys r e g = sym (all_made inputs level most 
 
 pub ends_gathered : (inputs : Run Value) (level most : ℕ) (s : Stop) (xs : List Val) (r : Run Item) → xs ≡ [] → ((q : Run Item) → Ends s (made inputs level (rest.End most) xs (then_run (bind r one) q))) → Ends s (gathered r)
 ends_gathered inputs level most s xs r e h = subst (Ends s) (all_made inputs level most xs r e) (h none)
+
+-- all outputs of a tree on a value
+pub gathers_all : (p : Context) (t : Tree) (v : Value) (most : ℕ) (a : Result (Unit {0}) Stop) (xs ys : List Val) (x : Item) → x ≡ plain v → xs ≡ []
+    → ((inputs : Run Value) (level : ℕ) → Gathers (made inputs level (rest.End most)) a xs ys (bind (run p inputs level t x) (rest_run inputs level (rest.End most))))
+    → GathersAll p t v a ys
+gathers_all p t v most (Ok d) xs ys x h e g = λ inputs level.
+    gathered_list inputs level most d xs ys (run p inputs level t (plain v)) e (subst (λ (z : Item). Gathers (made inputs level (rest.End most)) (Ok d) xs ys (bind (run p inputs level t z) one)) h (g inputs level))
+gathers_all p t v most (Err s) xs ys x h e g = tt
 
 -- a test picks a branch
 pub picks_holds : (l : Run Item) (w : Value) (holds fails : Item → Run Item) (x : Item) → l ≡ one (plain w) → is_true w ≡ true → bind l (on_test holds fails x) ≡ holds x

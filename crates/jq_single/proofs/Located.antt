@@ -6,10 +6,12 @@ use Rattle.jq_ast.specs.declared.tree.Tree as ast
 use Rattle.jq_machine.specs.Operations.{path_item}
 use Rattle.jq_machine.proofs.RunLaws.{bind-bind}
 use Rattle.jq_machine.proofs.ShapeLaws.{paths-bind}
-use Rattle.jq_tree.specs.Tree.{trees_of}
-use Rattle.jq_meaning.specs.Builtins.{paths}
+use Rattle.jq_tree.specs.Tree.{Trees, trees_of}
+use Rattle.jq_meaning.specs.Builtins.{first_run, paths}
+use Rattle.jq_meaning.specs.Meaning.{arguments_with, below}
 use Rattle.jq_meaning.specs.Runs.{Item, plain, located, Done, Raised, Broken, Stopped, Ending, Run, one, bind, gathered, path_array, paths_in}
 use Rattle.jq_single.specs.private.Parts.{builtin_in, run}
+use Rattle.jq_single.specs.private.Scopes.{scope_env}
 use Rattle.jq_single.specs.declared.contexts.Context.{Context}
 use Rattle.jq_single.proofs.Folded.{first_or, in_array}
 
@@ -32,3 +34,9 @@ one_path (y ∷ z ∷ zs) Done w g = let c = ap length (in_array (path_array y �
 one_path xs (Raised v) w g = let c = ap length (in_array (map path_array xs) (Raised v) w g) in absurd (omega (arith, c))
 one_path xs (Broken l) w g = let c = ap length (in_array (map path_array xs) (Broken l) w g) in absurd (omega (arith, c))
 one_path xs (Stopped stop) w g = let c = ap length (in_array (map path_array xs) (Stopped stop) w g) in absurd (omega (arith, c))
+
+pub path_of_builtin : (p : Context) (inputs : Run Value) (level : ℕ) (ts : Trees) (v w : Value) → gathered (builtin_in p inputs level paths ts (plain v)) ≡ one (plain (array (items_of (w ∷ []))))
+    → builtin_in p inputs level paths ts (plain v) ≡ one (plain w)
+path_of_builtin p inputs level ts v w g =
+    let r = first_run (arguments_with (below p.depth) ts (scope_env inputs p.scope.now) level (located v [])) in
+    one_path r.items r.ending w g

@@ -69,7 +69,7 @@ impl<'s> Context<'s> {
         later: &Rest<'s>,
         into: &mut Vec<Val>,
     ) -> Result<(), Stop>
-        ensures { GathersRun (step_run step (item_of item.now)) later.now result into.old.items into.new.items }
+        ensures { GathersRun (step_run step.entry (item_of item.now)) later.now result into.old.items into.new.items }
     {
         if self.fuel == 0 {
             return Err(Stop::Unknown);

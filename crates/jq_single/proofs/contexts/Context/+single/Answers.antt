@@ -1,0 +1,1123 @@
+use Rattle.std.proofs.Common.{rules, to_z, of_z, w64, Ok, Err, [], ◌∷◌, List, ℕ, suc, codes, ◌≡◌, ◌∙◌, ◌-◌, arith, length, map, true, false, refl, sym, ap, subst}
+use Rattle.std.proofs.lemmas.Int.{to_z-of_z}
+use Rattle.std.specs.Str.{chars}
+use Rattle.jv_data.specs.Held.{members_in}
+use Rattle.jv_data.proofs.shared.Levels.{view-Bool, view-List}
+use Rattle.jv_data.specs.Shared.{string_in}
+use Rattle.jv_meaning.specs.Value.{Value, Members, array, items_of, string}
+use Rattle.jv_meaning.specs.Text.{text_of}
+use Rattle.jv_value.specs.Index.{slice_key}
+use Rattle.jv_data.specs.View.{view}
+use Rattle.jv_data.specs.declared.values.Val.{Val}
+use Rattle.jq_ast.specs.Leaves.{key_of, characters, operator_of}
+use Rattle.jq_ast.specs.Named.{name_of, named, named_as_pattern, named_entry}
+use Rattle.jq_ast.proofs.shared.Forms.{named-Call, named-PreludeCall, named-Object, named-Text, named-Whole}
+use Rattle.jq_tree.specs.Tree.{Entry, Tree, call, prelude_call, bind_as, more_entries, object, reduce, text, trees_of, whole}
+use Rattle.jq_operations.specs.Language.{meaning_of}
+use Rattle.jq_machine.specs.Operations.{path_item}
+use Rattle.jq_meaning.specs.Builtins.{builtin_named, plain_native, range_of}
+use Rattle.jq_meaning.specs.Builtins as meaning
+use Rattle.jq_meaning.specs.Env.{bound, find_callee, find_value, no_callee, value_of, with_arguments}
+use Rattle.jq_meaning.specs.Steps.{each_part}
+use Rattle.jv_arith.specs.Arith.{add_of}
+use Rattle.jq_natives.specs.PathNatives.{getpath_native_of}
+use Rattle.jq_meaning.specs.Folds.{next_state, reduced}
+use Rattle.jq_meaning.specs.Meaning.{arguments_with, below, bindings_with, meaning, pieces_with}
+use Rattle.jq_meaning.specs.Continuations.{on_source, on_state, on_target, on_key, on_start, on_end, on_entry, on_entry_key, on_back, on_inserted, format_of, on_left, on_right, negated, truth, on_conjunct, on_disjunct, on_test, on_error}
+use Rattle.jq_meaning.specs.Runs.{Run, Item, plain, located, as_value, value_in, none, one, fail, alternative, then_run, bind, catch, gathered}
+use Rattle.jq_single.specs.private.Scopes.{scope_env}
+use Rattle.jq_operations.specs.Outputs.{Inserts, outputs_of}
+use Rattle.jq_operations.specs.Pieces.{named_pieces}
+use Rattle.jq_state.specs.Steps.{named_entries}
+use Rattle.jq_machine.proofs.RunLaws.{bind-bind, bind-then_run}
+use Rattle.jq_single.specs.private.Gathering.{Gathers, folded, given_of, made, numbers_from, rest_run, state_in, turn}
+use Rattle.jq_state.specs.Items.{item_of}
+use Rattle.jq_state.proofs.shared.Items.{absent, value_of_item}
+use Rattle.jq_single.specs.private.Making.{entries_in}
+use Rattle.jq_single.specs.private.Around.{Around}
+use Rattle.jq_single.specs.private.States.{first_of, second_of, state}
+use Rattle.jq_shapes.specs.Turn as shape
+use Rattle.jq_single.specs.private.UpdateTurns.{PutsFirst, PutsSecond}
+use Rattle.jq_single.specs.private.UpdateTurns as updates
+use Rattle.jq_single.specs.private.Parts.{Answers, builtin_in, run}
+use Rattle.jq_single.specs.Single.{Changed, Ends}
+use Rattle.jq_single.proofs.Binding.{bind-known, ends-bind, ends-after, answers-bind, changed-bind, changed_holds, changed_fails, changed-stops, goes-changed, keeps-stops, leaves_same, stops, untold, text_key, and_goes, and_stops, or_goes, or_stops, truth_of, caught, with_variable, text-bind, text-stops}
+use Rattle.jq_single.specs.declared.rests.Rest.{Rest}
+use Rattle.jq_single.proofs.Gathered.{gathers-none, gathers-then, gathers-fail, gathers_all, gives_first, stops_first, stops-then, gathered_list, ends_gathered, bound_rest, picks_holds, picks_fails}
+use Rattle.jq_single.proofs.Folded.{turned, fold_ends, single_fold}
+use Rattle.jq_single.proofs.Outcomes.{getpath_keys, setpath_keys, put_turn, keep_turn, raising_turn}
+use Rattle.jq_single.proofs.Updated.{finish-run, update_once, put_once, delete_once, raise_once}
+use Rattle.jq_single.proofs.Located.{path_given, path_of_builtin, paths-rest}
+use Rattle.jq_single.proofs.Bodies.{body_runs, builtin_runs, closure_runs, function_runs, prelude_runs}
+use Rattle.jq_single.proofs.GivenArguments.{native_plain, two_chosen, two_given}
+use Rattle.jq_single.proofs.contexts.Context.+single.Goals as goal
+
+-- ---- forms
+
+pub get_form-returns-in-Text : goal.get_form-returns-in-Text
+get_form-returns-in-Text t c = λ inputs level.
+    let f = name_of c.in-Text.format in
+    let form : named c.args.tree.now ≡ text f (named_pieces c.as_slice.result.now c.in-Text.last) =
+    ap named c.in-Text.is ∙ named-Text c.in-Text.format c.in-Text.pieces c.in-Text.last ∙ ap (λ ps. text f (named_pieces ps c.in-Text.last)) (sym c.as_slice.ensures.value) in
+    subst (λ (u : Tree). Answers c.text.result (run c.args.self.now inputs level u (plain (view c.args.value.now)))) (sym form) (c.text.ensures inputs level)
+
+pub get_form-returns-in-Object : goal.get_form-returns-in-Object
+get_form-returns-in-Object t c = λ inputs level.
+    let form : named c.args.tree.now ≡ object (named_entries c.as_slice-in-Object.result.now) =
+    ap named c.in-Object.is ∙ named-Object c.in-Object.entries ∙ ap (λ es. object (named_entries es)) (sym c.as_slice-in-Object.ensures.value) in
+    subst (λ (u : Tree). Answers c.object.result (run c.args.self.now inputs level u (plain (view c.args.value.now)))) (sym form) (c.object.ensures inputs level)
+
+pub get_changed-returns-in-Ok : goal.get_changed-returns-in-Ok
+get_changed-returns-in-Ok t c = λ inputs level.
+    ap (λ v. run c.args.self.now inputs level (named c.args.tree.now) (plain v)) (sym c.in_ok-output.ensures) ∙ c.in-Ok.ensures.runs inputs level
+
+pub get_changed-returns-in-Err : goal.get_changed-returns-in-Err
+get_changed-returns-in-Err t c = λ inputs level.
+    subst (λ v. Ends c.in-Err.stop (run c.args.self.now inputs level (named c.args.tree.now) (plain v))) c.in_ok-output.ensures (c.in-Err.ensures.runs inputs level)
+
+-- ---- parts
+
+pub field-returns-in_ok-found : goal.field-returns-in_ok-found
+field-returns-in_ok-found t c = λ inputs level.
+    let v = plain (view c.args.value.now) in
+    let w = plain (view c.in_ok-found.found) in
+    let guarded = c.args.guarded in
+    let key : view c.value.result.now ≡ string (key_of c.args.key.now) =
+    text_key (view c.value.result.now) c.value.ensures.text ∙ ap (λ (k : Val). string (characters (view k))) c.value.ensures.same in
+    answers-bind c.part_at.result (run c.args.self.now inputs level (named c.args.target.now) v) w (on_target guarded (string (key_of c.args.key.now)))
+    (c.in_ok-found.ensures inputs level)
+    (subst (λ (k : Value). Answers c.part_at.result (on_target guarded k w)) key c.part_at.ensures)
+
+pub field-returns-in_err-found : goal.field-returns-in_err-found
+field-returns-in_err-found t c = λ inputs level.
+    let v = plain (view c.args.value.now) in
+    let go : Tree → Item → Run Item = run c.args.self.now inputs level in
+    stops c.from_residual.result c.in_err-found.field-0.0 _ c.from_residual.ensures.1 (ends-bind c.in_err-found.field-0.0 (go (named c.args.target.now) v) (on_target c.args.guarded (string (key_of c.args.key.now))) (c.in_err-found.ensures inputs level))
+
+pub index-returns-in_ok-found : goal.index-returns-in_ok-found
+unfolding on_key
+index-returns-in_ok-found t c = λ inputs level.
+    let v = plain (view c.args.value.now) in
+    let go : Tree → Item → Run Item = run c.args.self.now inputs level in
+    answers-bind c.part_at.result (go (named c.args.key.now) v) (plain (view c.in_ok-at.at)) (on_key c.args.guarded (go (named c.args.target.now) v)) (c.in_ok-at.ensures inputs level)
+    (answers-bind c.part_at.result (go (named c.args.target.now) v) (plain (view c.in_ok-found.found)) (on_target c.args.guarded (view c.in_ok-at.at)) (c.in_ok-found.ensures inputs level) c.part_at.ensures)
+
+pub index-returns-in_err-at : goal.index-returns-in_err-at
+index-returns-in_err-at t c = λ inputs level.
+    let v = plain (view c.args.value.now) in
+    let go : Tree → Item → Run Item = run c.args.self.now inputs level in
+    stops c.from_residual.result c.in_err-at.field-0.0 _ c.from_residual.ensures.1 (ends-bind c.in_err-at.field-0.0 (go (named c.args.key.now) v) (on_key c.args.guarded (go (named c.args.target.now) v)) (c.in_err-at.ensures inputs level))
+
+pub index-returns-in_err-found : goal.index-returns-in_err-found
+unfolding on_key
+index-returns-in_err-found t c = λ inputs level.
+    let v = plain (view c.args.value.now) in
+    let go : Tree → Item → Run Item = run c.args.self.now inputs level in
+    let s = c.in_err-found.field-0.0 in
+    stops c.from_residual-in_err-found.result s _ c.from_residual-in_err-found.ensures.1
+    (ends-after s (go (named c.args.key.now) v) (plain (view c.in_ok-at.at)) (on_key c.args.guarded (go (named c.args.target.now) v)) (c.in_ok-at.ensures inputs level)
+    (ends-bind s (go (named c.args.target.now) v) (on_target c.args.guarded (view c.in_ok-at.at)) (c.in_err-found.ensures inputs level)))
+
+pub slice-returns-in_ok-found : goal.slice-returns-in_ok-found
+unfolding on_start on_end
+slice-returns-in_ok-found t c = λ inputs level.
+    let v = plain (view c.args.value.now) in
+    let go : Tree → Run Item = λ u. run c.args.self.now inputs level u v in
+    let ends = go (named c.args.to.now) in
+    let targets = go (named c.args.target.now) in
+    answers-bind c.part_at.result (go (named c.args.from.now)) (plain (view c.in_ok-start.start)) (on_start c.args.guarded ends targets) (c.in_ok-start.ensures inputs level)
+    (answers-bind c.part_at.result ends (plain (view c.in_ok-end.end)) (on_end c.args.guarded targets (view c.in_ok-start.start)) (c.in_ok-end.ensures inputs level)
+    (subst (λ (k : Value). Answers c.part_at.result (bind targets (on_target c.args.guarded k))) c.in_ok-bounds.ensures
+    (answers-bind c.part_at.result targets (plain (view c.in_ok-found.found)) (on_target c.args.guarded (view c.in_ok-bounds.bounds)) (c.in_ok-found.ensures inputs level) c.part_at.ensures)))
+
+pub slice-returns-in_err-start : goal.slice-returns-in_err-start
+slice-returns-in_err-start t c = λ inputs level.
+    let v = plain (view c.args.value.now) in
+    let go : Tree → Run Item = λ u. run c.args.self.now inputs level u v in
+    let ends = go (named c.args.to.now) in
+    let targets = go (named c.args.target.now) in
+    stops c.from_residual.result c.in_err-start.field-0.0 _ c.from_residual.ensures.1
+    (ends-bind c.in_err-start.field-0.0 (go (named c.args.from.now)) (on_start c.args.guarded ends targets) (c.in_err-start.ensures inputs level))
+
+pub slice-returns-in_err-end : goal.slice-returns-in_err-end
+unfolding on_start
+slice-returns-in_err-end t c = λ inputs level.
+    let v = plain (view c.args.value.now) in
+    let go : Tree → Run Item = λ u. run c.args.self.now inputs level u v in
+    let ends = go (named c.args.to.now) in
+    let targets = go (named c.args.target.now) in
+    let s = c.in_err-end.field-0.0 in
+    stops c.from_residual-in_err-end.result s _ c.from_residual-in_err-end.ensures.1
+    (ends-after s (go (named c.args.from.now)) (plain (view c.in_ok-start.start)) (on_start c.args.guarded ends targets) (c.in_ok-start.ensures inputs level)
+    (ends-bind s ends (on_end c.args.guarded targets (view c.in_ok-start.start)) (c.in_err-end.ensures inputs level)))
+
+pub slice-returns-in_err-found : goal.slice-returns-in_err-found
+unfolding on_start on_end
+slice-returns-in_err-found t c = λ inputs level.
+    let v = plain (view c.args.value.now) in
+    let go : Tree → Run Item = λ u. run c.args.self.now inputs level u v in
+    let ends = go (named c.args.to.now) in
+    let targets = go (named c.args.target.now) in
+    let s = c.in_err-found.field-0.0 in
+    stops c.from_residual-in_err-found.result s _ c.from_residual-in_err-found.ensures.1
+    (ends-after s (go (named c.args.from.now)) (plain (view c.in_ok-start.start)) (on_start c.args.guarded ends targets) (c.in_ok-start.ensures inputs level)
+    (ends-after s ends (plain (view c.in_ok-end.end)) (on_end c.args.guarded targets (view c.in_ok-start.start)) (c.in_ok-end.ensures inputs level)
+    (ends-bind s targets (on_target c.args.guarded (slice_key (view c.in_ok-start.start) (view c.in_ok-end.end))) (c.in_err-found.ensures inputs level))))
+
+-- ---- values of parts
+
+pub pipe-returns-in_ok-between : goal.pipe-returns-in_ok-between
+pipe-returns-in_ok-between t c = λ inputs level.
+    answers-bind c.get-2.result (run c.args.self.now inputs level (named c.args.first.now) (plain (view c.args.value.now))) (plain (view c.in_ok-between.between)) (run c.args.self.now inputs level (named c.args.second.now))
+    (c.in_ok-between.ensures inputs level) (c.get-2.ensures inputs level)
+
+pub pipe-returns-in_err-between : goal.pipe-returns-in_err-between
+pipe-returns-in_err-between t c = λ inputs level.
+    let v = plain (view c.args.value.now) in
+    let go : Tree → Item → Run Item = run c.args.self.now inputs level in
+    stops c.from_residual.result c.in_err-between.field-0.0 _ c.from_residual.ensures.1 (ends-bind c.in_err-between.field-0.0 (go (named c.args.first.now) v) (go (named c.args.second.now)) (c.in_err-between.ensures inputs level))
+
+pub binary-returns-in_ok-first : goal.binary-returns-in_ok-first
+unfolding on_right
+binary-returns-in_ok-first t c = λ inputs level.
+    let v = plain (view c.args.value.now) in
+    let go : Tree → Item → Run Item = run c.args.self.now inputs level in
+    let op = operator_of c.args.operator in
+    answers-bind c.operate.result (go (named c.args.right.now) v) (plain (view c.in_ok-second.second)) (on_right op (go (named c.args.left.now) v)) (c.in_ok-second.ensures inputs level)
+    (answers-bind c.operate.result (go (named c.args.left.now) v) (plain (view c.in_ok-first.first)) (on_left op (view c.in_ok-second.second)) (c.in_ok-first.ensures inputs level) c.operate.ensures)
+
+pub binary-returns-in_err-second : goal.binary-returns-in_err-second
+binary-returns-in_err-second t c = λ inputs level.
+    let v = plain (view c.args.value.now) in
+    let go : Tree → Item → Run Item = run c.args.self.now inputs level in
+    stops c.from_residual.result c.in_err-second.field-0.0 _ c.from_residual.ensures.1 (ends-bind c.in_err-second.field-0.0 (go (named c.args.right.now) v) (on_right (operator_of c.args.operator) (go (named c.args.left.now) v)) (c.in_err-second.ensures inputs level))
+
+pub binary-returns-in_err-first : goal.binary-returns-in_err-first
+unfolding on_right
+binary-returns-in_err-first t c = λ inputs level.
+    let v = plain (view c.args.value.now) in
+    let go : Tree → Item → Run Item = run c.args.self.now inputs level in
+    let op = operator_of c.args.operator in
+    let s = c.in_err-first.field-0.0 in
+    stops c.from_residual-in_err-first.result s _ c.from_residual-in_err-first.ensures.1
+    (ends-after s (go (named c.args.right.now) v) (plain (view c.in_ok-second.second)) (on_right op (go (named c.args.left.now) v)) (c.in_ok-second.ensures inputs level)
+    (ends-bind s (go (named c.args.left.now) v) (on_left op (view c.in_ok-second.second)) (c.in_err-first.ensures inputs level)))
+
+pub negation-returns-in_ok-found : goal.negation-returns-in_ok-found
+negation-returns-in_ok-found t c = λ inputs level.
+    answers-bind c.negative.result (run c.args.self.now inputs level (named c.args.operand.now) (plain (view c.args.value.now))) (plain (view c.in_ok-found.found)) negated
+    (c.in_ok-found.ensures inputs level) c.negative.ensures
+
+pub negation-returns-in_err-found : goal.negation-returns-in_err-found
+negation-returns-in_err-found t c = λ inputs level.
+    let v = plain (view c.args.value.now) in
+    let go : Tree → Item → Run Item = run c.args.self.now inputs level in
+    stops c.from_residual.result c.in_err-found.field-0.0 _ c.from_residual.ensures.1 (ends-bind c.in_err-found.field-0.0 (go (named c.args.operand.now) v) (negated) (c.in_err-found.ensures inputs level))
+
+-- ---- conditions
+
+pub get_truth-returns-in_ok-output : goal.get_truth-returns-in_ok-output
+get_truth-returns-in_ok-output t c = λ inputs level.
+    truth_of (run c.args.self.now inputs level (named c.args.tree.now) (plain (view c.args.value.now))) (view c.in_ok-output.output) c.truth.result
+    (c.in_ok-output.ensures inputs level) c.truth.ensures
+    ∙ ap (λ (w : Value). one (plain w)) (sym (view-Bool c.truth.result))
+
+pub get_truth-returns-in_err-output : goal.get_truth-returns-in_err-output
+get_truth-returns-in_err-output t c = λ inputs level.
+    let v = plain (view c.args.value.now) in
+    let go : Tree → Item → Run Item = run c.args.self.now inputs level in
+    stops c.from_residual.result c.in_err-output.field-0.0 _ c.from_residual.ensures.1 (ends-bind c.in_err-output.field-0.0 (go (named c.args.tree.now) v) (truth) (c.in_err-output.ensures inputs level))
+
+pub and-returns-then-truth : goal.and-returns-then-truth
+and-returns-then-truth t c = λ inputs level.
+    let v = plain (view c.args.value.now) in
+    let go : Tree → Item → Run Item = run c.args.self.now inputs level in
+    and_goes c.get_truth.result (go (named c.args.left.now) v) (view c.in_ok-first.first) (go (named c.args.right.now)) v
+    (c.in_ok-first.ensures inputs level) (sym c.truth.ensures ∙ c.if-truth.true) (c.get_truth.ensures inputs level)
+
+pub and-returns-in_ok-first : goal.and-returns-in_ok-first
+and-returns-in_ok-first t c = λ inputs level.
+    let v = plain (view c.args.value.now) in
+    let go : Tree → Item → Run Item = run c.args.self.now inputs level in
+    and_stops (go (named c.args.left.now) v) (view c.in_ok-first.first) (go (named c.args.right.now)) v
+    (c.in_ok-first.ensures inputs level) (sym c.truth.ensures ∙ c.if-truth.false)
+    ∙ ap (λ (w : Value). one (plain w)) (sym (view-Bool false))
+
+pub and-returns-in_err-first : goal.and-returns-in_err-first
+and-returns-in_err-first t c = λ inputs level.
+    let v = plain (view c.args.value.now) in
+    let go : Tree → Item → Run Item = run c.args.self.now inputs level in
+    stops c.from_residual.result c.in_err-first.field-0.0 _ c.from_residual.ensures.1 (ends-bind c.in_err-first.field-0.0 (go (named c.args.left.now) v) (on_conjunct (go (named c.args.right.now)) v) (c.in_err-first.ensures inputs level))
+
+pub or-returns-in_ok-first : goal.or-returns-in_ok-first
+or-returns-in_ok-first t c = λ inputs level.
+    let v = plain (view c.args.value.now) in
+    let go : Tree → Item → Run Item = run c.args.self.now inputs level in
+    or_goes c.get_truth.result (go (named c.args.left.now) v) (view c.in_ok-first.first) (go (named c.args.right.now)) v
+    (c.in_ok-first.ensures inputs level) (sym c.truth.ensures ∙ c.if-truth.false) (c.get_truth.ensures inputs level)
+
+pub or-returns-then-truth : goal.or-returns-then-truth
+or-returns-then-truth t c = λ inputs level.
+    let v = plain (view c.args.value.now) in
+    let go : Tree → Item → Run Item = run c.args.self.now inputs level in
+    or_stops (go (named c.args.left.now) v) (view c.in_ok-first.first) (go (named c.args.right.now)) v
+    (c.in_ok-first.ensures inputs level) (sym c.truth.ensures ∙ c.if-truth.true)
+    ∙ ap (λ (w : Value). one (plain w)) (sym (view-Bool true))
+
+pub or-returns-in_err-first : goal.or-returns-in_err-first
+or-returns-in_err-first t c = λ inputs level.
+    let v = plain (view c.args.value.now) in
+    let go : Tree → Item → Run Item = run c.args.self.now inputs level in
+    stops c.from_residual.result c.in_err-first.field-0.0 _ c.from_residual.ensures.1 (ends-bind c.in_err-first.field-0.0 (go (named c.args.left.now) v) (on_disjunct (go (named c.args.right.now)) v) (c.in_err-first.ensures inputs level))
+
+-- ---- `//` and `try`
+
+pub alternative-returns-in-Ok-Some : goal.alternative-returns-in-Ok-Some
+alternative-returns-in-Ok-Some t c = λ inputs level.
+    let v = plain (view c.args.value.now) in
+    (rw c.in-Ok-Some.field-0-is at c.in-Ok-Some.ensures.some) (run c.args.self.now inputs level (named c.args.left.now) v) (run c.args.self.now inputs level (named c.args.right.now)) v (c.get.ensures inputs level)
+
+pub alternative-returns-in-Ok-None : goal.alternative-returns-in-Ok-None
+alternative-returns-in-Ok-None t c = λ inputs level.
+    let v = plain (view c.args.value.now) in
+    let right = run c.args.self.now inputs level (named c.args.right.now) in
+    let left = run c.args.self.now inputs level (named c.args.left.now) v in
+    let same : alternative left right v ≡ right v = (rw c.in-Ok-None.field-0-is at c.in-Ok-None.ensures.none) left right v (c.get.ensures inputs level) in
+    subst (Answers c.get-in-Ok-None.result) (sym same) (c.get-in-Ok-None.ensures inputs level)
+
+pub alternative-returns-in-Err : goal.alternative-returns-in-Err
+alternative-returns-in-Err t c = λ inputs level.
+    let v = plain (view c.args.value.now) in
+    untold c.in-Err.stop (alternative (run c.args.self.now inputs level (named c.args.left.now) v) (run c.args.self.now inputs level (named c.args.right.now)) v) c.in-Err.ensures.stop
+
+pub try_catch-returns-in-Ok : goal.try_catch-returns-in-Ok
+try_catch-returns-in-Ok t c = λ inputs level.
+    let v = plain (view c.args.value.now) in
+    ap (λ (q : Run Item). catch q (on_error (run c.args.self.now inputs level (named c.args.handler.now)) v)) (c.in-Ok.ensures inputs level)
+
+pub try_catch-returns-in-Err-Raised : goal.try_catch-returns-in-Err-Raised
+try_catch-returns-in-Err-Raised t c = λ inputs level.
+    let v = view c.args.value.now in
+    let body = run c.args.self.now inputs level (named c.args.body.now) (plain v) in
+    let handler = run c.args.self.now inputs level (named c.args.handler.now) in
+    let raised : body ≡ fail (view c.in-Err-Raised.error) = (rw c.in-Err-Raised.field-0-is at c.in-Err-Raised.ensures) inputs level in
+    subst (Answers c.get-in-Err-Raised.result) (sym (caught body v (view c.in-Err-Raised.error) handler raised)) (c.get-in-Err-Raised.ensures inputs level)
+
+pub try_catch-returns-in-Err-Nothing : goal.try_catch-returns-in-Err-Nothing
+try_catch-returns-in-Err-Nothing t c = λ inputs level.
+    let v = plain (view c.args.value.now) in
+    ap (λ (q : Run Item). catch q (on_error (run c.args.self.now inputs level (named c.args.handler.now)) v)) ((rw c.in-Err-Nothing.field-0-is at c.in-Err-Nothing.ensures) inputs level)
+
+-- ---- outputs that replace the input
+
+pub change_form-returns-in-Call-clause-runs : goal.change_form-returns-in-Call-clause-runs
+change_form-returns-in-Call-clause-runs t c = λ inputs level.
+    let form : named c.args.tree.now ≡ call (name_of c.in-Call.name) (trees_of (map named c.as_slice.result.now)) =
+    ap named c.in-Call.is ∙ named-Call c.in-Call.name c.in-Call.arguments ∙ ap (λ ts. call (name_of c.in-Call.name) (trees_of (map named ts))) (sym c.as_slice.ensures.value) in
+    subst (λ (u : Tree). Changed c.change_call.result (view c.change_call.new.value) (run c.args.self.now inputs level u (plain (view c.args.value.now)))) (sym form) (c.change_call.ensures.runs inputs level)
+
+pub change_form-returns-in-PreludeCall-clause-runs : goal.change_form-returns-in-PreludeCall-clause-runs
+change_form-returns-in-PreludeCall-clause-runs t c = λ inputs level.
+    let form : named c.args.tree.now ≡ prelude_call (name_of c.in-PreludeCall.name) (trees_of (map named c.as_slice-in-PreludeCall.result.now)) =
+    ap named c.in-PreludeCall.is ∙ named-PreludeCall c.in-PreludeCall.name c.in-PreludeCall.arguments ∙ ap (λ ts. prelude_call (name_of c.in-PreludeCall.name) (trees_of (map named ts))) (sym c.as_slice-in-PreludeCall.ensures.value) in
+    subst (λ (u : Tree). Changed c.change_prelude_call.result (view c.change_prelude_call.new.value) (run c.args.self.now inputs level u (plain (view c.args.value.now)))) (sym form) (c.change_prelude_call.ensures.runs inputs level)
+
+pub change_kept-returns-in-Err-clause-keeps : goal.change_kept-returns-in-Err-clause-keeps
+change_kept-returns-in-Err-clause-keeps t c = leaves_same c.in-Err.stop (view c.args.value.now)
+
+pub change_call-returns-in-Closure-clause-runs : goal.change_call-returns-in-Closure-clause-runs
+change_call-returns-in-Closure-clause-runs t c = λ inputs level.
+    subst (Changed c.change_body.result (view c.change_body.new.value))
+    (sym (closure_runs c.args.self.now inputs level (name_of c.args.name.now) c.args.arguments.now (named c.in-Closure.body.now) c.in-Closure.own (plain (view c.args.value.now)) (c.in-Closure.ensures inputs)))
+    (c.change_body.ensures.runs inputs level)
+
+pub change_call-returns-in-Function-clause-runs : goal.change_call-returns-in-Function-clause-runs
+change_call-returns-in-Function-clause-runs t c = λ inputs level.
+    subst (Changed c.change_function.result (view c.change_function.new.value))
+    (sym (function_runs c.args.self.now inputs level (name_of c.args.name.now) c.args.arguments.now c.in-Function.function.now c.in-Function.own (plain (view c.args.value.now)) (c.in-Function.ensures inputs)))
+    (c.change_function.ensures.runs inputs level)
+
+pub change_call-returns-in-Nothing-clause-runs : goal.change_call-returns-in-Nothing-clause-runs
+change_call-returns-in-Nothing-clause-runs t c = λ inputs level.
+    let ts = c.args.arguments.now in
+    let means : meaning_of c.builtin_named-builtin.result ≡ builtin_named (name_of c.args.name.now) (length ts) =
+    c.builtin_named-builtin.ensures ∙ ap (λ bs. builtin_named (chars bs) (length ts)) c.as_str.ensures.value in
+    subst (Changed c.change_builtin.result (view c.change_builtin.new.value))
+    (sym (builtin_runs c.args.self.now inputs level (name_of c.args.name.now) ts (meaning_of c.builtin_named-builtin.result) (plain (view c.args.value.now)) (c.in-Nothing.ensures inputs) means))
+    (c.change_builtin.ensures.runs inputs level)
+
+pub change_prelude_call-returns-in-Function-clause-runs : goal.change_prelude_call-returns-in-Function-clause-runs
+change_prelude_call-returns-in-Function-clause-runs t c = λ inputs level.
+    subst (Changed c.change_function.result (view c.change_function.new.value))
+    (sym (prelude_runs c.args.self.now inputs level (name_of c.args.name.now) c.args.arguments.now c.in-Function.function.now c.in-Function.own (plain (view c.args.value.now)) (c.in-Function.ensures inputs)))
+    (c.change_function.ensures.runs inputs level)
+
+pub change_function-returns-clause-runs : goal.change_function-returns-clause-runs
+change_function-returns-clause-runs t c = λ inputs level.
+    let p = c.args.self.now in
+    let f = c.args.function.now in
+    let e = with_arguments (map text_of f.parameters.items) (trees_of (map named c.args.arguments.now)) (scope_env inputs p.scope.now) (scope_env inputs c.args.own.now) in
+    subst (Changed c.change.result (view c.change.new.value))
+    (body_runs e p.depth (p.depth - 1) level (named f.body) (plain (view c.args.value.now)) (omega arith))
+    (c.change.ensures.runs inputs level)
+
+pub change_body-returns-clause-runs : goal.change_body-returns-clause-runs
+change_body-returns-clause-runs t c = λ inputs level.
+    let depth = c.args.self.now.depth in
+    subst (Changed c.change.result (view c.change.new.value))
+    (body_runs (scope_env inputs c.args.own.now) depth (depth - 1) level (named c.args.body.now) (plain (view c.args.value.now)) (omega arith))
+    (c.change.ensures.runs inputs level)
+
+pub change_builtin-returns-in-Native-clause-runs : goal.change_builtin-returns-in-Native-clause-runs
+change_builtin-returns-in-Native-clause-runs t c = λ inputs level.
+    let p = c.args.self.now in
+    let us = trees_of (map named c.args.arguments.now) in
+    let v = view c.args.value.now in
+    subst (Changed c.change_native.result (view c.change_native.new.value))
+    (sym (ap (λ b. builtin_in p inputs level (meaning_of b) us (plain v)) c.in-Native.is ∙ native_plain c.in-Native.native (arguments_with (below p.depth) us (scope_env inputs p.scope.now) level (plain v)) v))
+    (c.change_native.ensures.runs inputs level)
+
+pub change_to_path-returns-in-Some-clause-runs : goal.change_to_path-returns-in-Some-clause-runs
+change_to_path-returns-in-Some-clause-runs t c = λ inputs level.
+    let r : Run Item = builtin_in c.args.self.now inputs level meaning.paths (trees_of (map named c.args.arguments.now)) (plain (view c.args.value.now)) in
+    let all : gathered r ≡ one (plain (array (items_of (map view c.gather_paths.new.into.items)))) =
+    gathered_list inputs level 1 (tt {0}) c.new-paths.result.items c.gather_paths.new.into.items r c.new-paths.ensures.items (c.in-Ok.ensures inputs level) in
+    path_of_builtin c.args.self.now inputs level (trees_of (map named c.args.arguments.now)) (view c.args.value.now) (view c.in-Some.path)
+    (all ∙ ap (λ (xs : List Val). one (plain (array (items_of (map view xs))))) c.in-Some.ensures)
+
+pub change_binary-returns-in-Ok-clause-runs : goal.change_binary-returns-in-Ok-clause-runs
+unfolding on_right
+change_binary-returns-in-Ok-clause-runs t c = λ inputs level.
+    let v = plain (view c.args.value.now) in
+    let go : Tree → Item → Run Item = run c.args.self.now inputs level in
+    let op = operator_of c.args.operator in
+    let w = view c.operate_in_place.new.left in
+    changed-bind c.operate_in_place.result w (go (named c.args.right.now) v) (plain (view c.in_ok-second.second)) (on_right op (go (named c.args.left.now) v)) (c.in_ok-second.ensures inputs level)
+    (changed-bind c.operate_in_place.result w (go (named c.args.left.now) v) (plain (view c.change.new.value)) (on_left op (view c.in_ok-second.second)) (c.in-Ok.ensures.runs inputs level) c.operate_in_place.ensures.runs)
+
+pub change_binary-returns-in-Ok-clause-keeps : goal.change_binary-returns-in-Ok-clause-keeps
+change_binary-returns-in-Ok-clause-keeps t c = c.operate_in_place.ensures.keeps (view c.args.value.now)
+
+pub change_binary-returns-in-Err-clause-runs : goal.change_binary-returns-in-Err-clause-runs
+unfolding on_right
+change_binary-returns-in-Err-clause-runs t c = λ inputs level.
+    let v = plain (view c.args.value.now) in
+    let go : Tree → Item → Run Item = run c.args.self.now inputs level in
+    let op = operator_of c.args.operator in
+    ends-after c.in-Err.stop (go (named c.args.right.now) v) (plain (view c.in_ok-second.second)) (on_right op (go (named c.args.left.now) v)) (c.in_ok-second.ensures inputs level)
+    (ends-bind c.in-Err.stop (go (named c.args.left.now) v) (on_left op (view c.in_ok-second.second)) (c.in-Err.ensures.runs inputs level))
+
+pub change_binary-returns-in_err-second-clause-runs : goal.change_binary-returns-in_err-second-clause-runs
+change_binary-returns-in_err-second-clause-runs t c = λ inputs level.
+    let v = plain (view c.args.value.now) in
+    let go : Tree → Item → Run Item = run c.args.self.now inputs level in
+    changed-stops c.from_residual.result c.in_err-second.field-0.0 _ _ c.from_residual.ensures.1 (ends-bind c.in_err-second.field-0.0 (go (named c.args.right.now) v) (on_right (operator_of c.args.operator) (go (named c.args.left.now) v)) (c.in_err-second.ensures inputs level))
+
+pub change_binary-returns-in_err-second-clause-keeps : goal.change_binary-returns-in_err-second-clause-keeps
+change_binary-returns-in_err-second-clause-keeps t c = keeps-stops c.from_residual.result c.in_err-second.field-0.0 (view c.args.value.now) c.from_residual.ensures.1
+
+pub change_choice-returns-then-truth-clause-runs : goal.change_choice-returns-then-truth-clause-runs
+change_choice-returns-then-truth-clause-runs t c = λ inputs level.
+    let v = plain (view c.args.value.now) in
+    let go : Tree → Item → Run Item = run c.args.self.now inputs level in
+    changed_holds c.change.result (view c.change.new.value) (go (named c.args.condition.now) v) (view c.in_ok-test.test) (go (named c.args.holds.now)) (go (named c.args.fails.now)) v
+    (c.in_ok-test.ensures inputs level) (sym c.truth.ensures ∙ c.if-truth.true) (c.change.ensures.runs inputs level)
+
+pub change_choice-returns-in_ok-test-clause-runs : goal.change_choice-returns-in_ok-test-clause-runs
+change_choice-returns-in_ok-test-clause-runs t c = λ inputs level.
+    let v = plain (view c.args.value.now) in
+    let go : Tree → Item → Run Item = run c.args.self.now inputs level in
+    changed_fails c.change-else-truth.result (view c.change-else-truth.new.value) (go (named c.args.condition.now) v) (view c.in_ok-test.test) (go (named c.args.holds.now)) (go (named c.args.fails.now)) v
+    (c.in_ok-test.ensures inputs level) (sym c.truth.ensures ∙ c.if-truth.false) (c.change-else-truth.ensures.runs inputs level)
+
+pub change_choice-returns-in_err-test-clause-runs : goal.change_choice-returns-in_err-test-clause-runs
+change_choice-returns-in_err-test-clause-runs t c = λ inputs level.
+    let v = plain (view c.args.value.now) in
+    let go : Tree → Item → Run Item = run c.args.self.now inputs level in
+    changed-stops c.from_residual.result c.in_err-test.field-0.0 _ _ c.from_residual.ensures.1 (ends-bind c.in_err-test.field-0.0 (go (named c.args.condition.now) v) (on_test (go (named c.args.holds.now)) (go (named c.args.fails.now)) v) (c.in_err-test.ensures inputs level))
+
+pub change_choice-returns-in_err-test-clause-keeps : goal.change_choice-returns-in_err-test-clause-keeps
+change_choice-returns-in_err-test-clause-keeps t c = keeps-stops c.from_residual.result c.in_err-test.field-0.0 (view c.args.value.now) c.from_residual.ensures.1
+
+pub change_binding-returns-in_ok-found-in-Whole-clause-runs : goal.change_binding-returns-in_ok-found-in-Whole-clause-runs
+change_binding-returns-in_ok-found-in-Whole-clause-runs t c = λ inputs level.
+    let p = c.args.self.now in
+    let x = plain (view c.args.value.now) in
+    let same = with_variable (below p.depth) (run p inputs level (named c.args.source.now) x) (text_of c.in-Whole.name) (view c.in_ok-found-in-Whole.found) (scope_env inputs p.scope.now) level (meaning p.depth (named c.args.body.now)) x (c.in_ok-found-in-Whole.ensures inputs level) in
+    subst (λ q. Changed c.change.result (view c.change.new.value) (run p inputs level (bind_as (named c.args.source.now) q (named c.args.body.now)) x)) (sym (ap named_as_pattern c.in-Whole.is ∙ named-Whole c.in-Whole.name))
+    (subst (Changed c.change.result (view c.change.new.value)) (sym same) (c.change.ensures.runs inputs level))
+
+pub change_native-returns-in_ok-other-clause-runs : goal.change_native-returns-in_ok-other-clause-runs
+change_native-returns-in_ok-other-clause-runs t c = λ inputs level.
+    let p = c.args.self.now in
+    let f = c.args.native in
+    let ts = c.args.arguments.now in
+    let v = view c.args.value.now in
+    let first = c.first-item.result in
+    let second = c.second-item.result in
+    let two : length ts ≡ 2 = omega (arith, c.in-len2.len_at_least, c.in-len2.len_below) in
+    let goes = run p inputs level (named second) (plain v) in
+    let next = λ (x : Item). bind goes (λ y. plain_native f v (value_in x ∷ value_in y ∷ [])) in
+    let a = c.call_on-in_ok-other.result in
+    let w = view c.call_on-in_ok-other.new.value in
+    subst (Changed a w) (sym (two_given p inputs level f ts first second v two c.first-item.is c.second-item.is))
+    (changed-bind a w (run p inputs level (named first) (plain v)) (plain (view c.in_ok-one.one)) next (c.in_ok-one.ensures inputs level)
+    (changed-bind a w goes (plain (view c.in_ok-other.other)) (λ y. plain_native f v (view c.in_ok-one.one ∷ value_in y ∷ [])) (c.in_ok-other.ensures inputs level) c.call_on-in_ok-other.ensures.runs))
+
+-- ---- several outputs
+
+pub array-returns-in_ok-from_vec : goal.array-returns-in_ok-from_vec
+array-returns-in_ok-from_vec t c = λ inputs level.
+    let p = c.args.self.now in
+    let made = c.in_ok-from_vec.field-0 in
+    let input : item_of c.plain-input.result ≡ plain (view c.args.value.now) = c.plain-input.ensures ∙ ap plain c.in_ok-copy.ensures in
+    gathers_all p (named c.args.filter.now) (view c.args.value.now) 0 (Ok (tt {0})) c.new-items.result.items c.gather.new.into.items (item_of c.plain-input.result) input c.new-items.ensures.items c.in_ok-gather.ensures inputs level
+    ∙ ap (λ (v : Value). one (plain v)) (ap (λ (xs : List Val). array (items_of (map view xs))) (sym c.in_ok-from_vec.ensures) ∙ sym (view-List made))
+
+pub array-returns-in_err-gather : goal.array-returns-in_err-gather
+array-returns-in_err-gather t c = λ inputs level.
+    let p = c.args.self.now in
+    let s = c.in_err-gather.field-0.0 in
+    let r = run p inputs level (named c.args.filter.now) (item_of c.plain-input.result) in
+    let input : item_of c.plain-input.result ≡ plain (view c.args.value.now) = c.plain-input.ensures ∙ ap plain c.in_ok-copy.ensures in
+    stops c.from_residual-in_err-gather.result s _ c.from_residual-in_err-gather.ensures.1
+    (subst (λ (x : Item). Ends s (gathered (run p inputs level (named c.args.filter.now) x))) input
+    (ends_gathered inputs level 0 s c.new-items.result.items r c.new-items.ensures.items (c.in_err-gather.ensures inputs level)))
+
+pub gather_parts-returns : goal.gather_parts-returns
+gather_parts-returns t c = λ inputs level.
+    let later : Item → Run Item = rest_run inputs level c.args.rest.now in
+    subst (Gathers (made inputs level c.args.rest.now) c.gather.result c.args.into.now.items c.gather.new.into.items)
+    (sym (bind-bind (run c.args.self.now inputs level (named c.args.target.now) (item_of c.args.item.now)) (each_part c.args.guarded) later))
+    (c.gather.ensures inputs level)
+
+pub gather_field-returns : goal.gather_field-returns
+gather_field-returns t c = λ inputs level.
+    let later : Item → Run Item = rest_run inputs level c.args.rest.now in
+    subst (Gathers (made inputs level c.args.rest.now) c.gather.result c.args.into.now.items c.gather.new.into.items)
+    (sym (bind-bind (run c.args.self.now inputs level (named c.args.target.now) (item_of c.args.item.now)) (on_target c.args.guarded (string (key_of c.args.key.now))) later))
+    (c.gather.ensures inputs level)
+
+pub gather_index-returns-in-Ok : goal.gather_index-returns-in-Ok
+unfolding on_key
+gather_index-returns-in-Ok t c = λ inputs level.
+    let x = item_of c.args.item.now in
+    let go : Tree → Item → Run Item = run c.args.self.now inputs level in
+    let later : Item → Run Item = rest_run inputs level c.args.rest.now in
+    let part : Item → Run Item = on_target c.args.guarded (view c.in-Ok.found) in
+    let key : go (named c.args.key.now) (as_value x) ≡ one (plain (view c.in-Ok.found)) =
+    ap (λ (w : Value). go (named c.args.key.now) (plain w)) (value_of_item c.args.item.now) ∙ c.in-Ok.ensures inputs level in
+    subst (Gathers (made inputs level c.args.rest.now) c.gather.result c.args.into.now.items c.gather.new.into.items)
+    (sym (ap (λ q. bind q later) (bind-known (go (named c.args.key.now) (as_value x)) (plain (view c.in-Ok.found)) (on_key c.args.guarded (go (named c.args.target.now) x)) key)
+    ∙ bind-bind (go (named c.args.target.now) x) part later))
+    (c.gather.ensures inputs level)
+
+pub gather_index-returns-in-Err : goal.gather_index-returns-in-Err
+unfolding on_key
+gather_index-returns-in-Err t c = λ inputs level.
+    let x = item_of c.args.item.now in
+    let go : Tree → Item → Run Item = run c.args.self.now inputs level in
+    let r = go (named c.args.key.now) (as_value x) in
+    let later : Item → Run Item = rest_run inputs level c.args.rest.now in
+    let at : Item → Run Item = on_key c.args.guarded (go (named c.args.target.now) x) in
+    c.ended.ensures inputs level c.args.rest.now (bind (bind r at) later) c.args.into.now.items
+    (ends-bind c.in-Err.stop (bind r at) later (ends-bind c.in-Err.stop r at
+    (subst (λ (w : Value). Ends c.in-Err.stop (go (named c.args.key.now) (plain w))) (sym (value_of_item c.args.item.now)) (c.in-Err.ensures inputs level))))
+
+pub gather_one-returns-in-Ok : goal.gather_one-returns-in-Ok
+gather_one-returns-in-Ok t c = λ inputs level.
+    let go : Item → Run Item = run c.args.self.now inputs level (named c.args.tree.now) in
+    subst (λ r. Gathers (made inputs level c.args.rest.now) c.give.result c.args.into.now.items c.give.new.into.items (bind r (rest_run inputs level c.args.rest.now)))
+    (c.plain-output.ensures ∙ sym (ap go (absent c.args.item.now (sym c.is_present.ensures ∙ c.if-is_present.false)) ∙ c.in-Ok.ensures inputs level))
+    (c.give.ensures inputs level)
+
+pub gather_one-returns-in-Err : goal.gather_one-returns-in-Err
+gather_one-returns-in-Err t c = λ inputs level.
+    let go : Item → Run Item = run c.args.self.now inputs level (named c.args.tree.now) in
+    let r = go (item_of c.args.item.now) in
+    let later : Item → Run Item = rest_run inputs level c.args.rest.now in
+    c.ended.ensures inputs level c.args.rest.now (bind r later) c.args.into.now.items
+    (ends-bind c.in-Err.stop r later
+    (subst (λ x. Ends c.in-Err.stop (go x)) (sym (absent c.args.item.now (sym c.is_present.ensures ∙ c.if-is_present.false))) (c.in-Err.ensures inputs level)))
+
+pub gather_pipe-returns : goal.gather_pipe-returns
+gather_pipe-returns t c = λ inputs level.
+    let later : Item → Run Item = rest_run inputs level c.args.rest.now in
+    let second : Item → Run Item = run c.args.self.now inputs level (named c.args.second.now) in
+    subst (Gathers (made inputs level c.args.rest.now) c.gather.result c.args.into.now.items c.gather.new.into.items)
+    (sym (bind-bind (run c.args.self.now inputs level (named c.args.first.now) (item_of c.args.item.now)) second later))
+    (c.gather.ensures inputs level)
+
+pub gather_comma-returns-in-Ok : goal.gather_comma-returns-in-Ok
+gather_comma-returns-in-Ok t c = λ inputs level.
+    let p = c.args.self.now in
+    let x = item_of c.args.item.now in
+    let later : Item → Run Item = rest_run inputs level c.args.rest.now in
+    let first = run p inputs level (named c.args.first.now) x in
+    let second = run p inputs level (named c.args.second.now) x in
+    let given = c.args.into.now.items in
+    let all = c.gather-in-Ok.new.into.items in
+    let make = made inputs level c.args.rest.now in
+    subst (Gathers make c.gather-in-Ok.result given all) (sym (bind-then_run first second later))
+    (gathers-then make (tt {0}) c.gather-in-Ok.result given c.gather.new.into.items all (bind first later) (bind second later) (c.in-Ok.ensures inputs level) (c.gather-in-Ok.ensures inputs level))
+
+pub gather_comma-returns-in-Err : goal.gather_comma-returns-in-Err
+gather_comma-returns-in-Err t c = λ inputs level.
+    let p = c.args.self.now in
+    let x = item_of c.args.item.now in
+    let later : Item → Run Item = rest_run inputs level c.args.rest.now in
+    let first = run p inputs level (named c.args.first.now) x in
+    let second = run p inputs level (named c.args.second.now) x in
+    let make = made inputs level c.args.rest.now in
+    subst (λ r. (p : Run Item) → Ends c.in-Err.stop (make c.args.into.now.items (then_run r p))) (sym (bind-then_run first second later))
+    (stops-then make c.in-Err.stop c.args.into.now.items (bind first later) (bind second later) (c.in-Err.ensures inputs level))
+
+pub gather_choice-returns-then-truth : goal.gather_choice-returns-then-truth
+gather_choice-returns-then-truth t c = λ inputs level.
+    let x = item_of c.args.item.now in
+    let go : Tree → Item → Run Item = run c.args.self.now inputs level in
+    let test : go (named c.args.condition.now) (as_value x) ≡ one (plain (view c.in-Ok.test)) =
+    ap (λ (w : Value). go (named c.args.condition.now) (plain w)) (value_of_item c.args.item.now) ∙ c.in-Ok.ensures inputs level in
+    subst (λ r. Gathers (made inputs level c.args.rest.now) c.gather.result c.args.into.now.items c.gather.new.into.items (bind r (rest_run inputs level c.args.rest.now)))
+    (sym (picks_holds (go (named c.args.condition.now) (as_value x)) (view c.in-Ok.test) (go (named c.args.holds.now)) (go (named c.args.fails.now)) x test (sym c.truth.ensures ∙ c.if-truth.true)))
+    (c.gather.ensures inputs level)
+
+pub gather_choice-returns-in-Ok : goal.gather_choice-returns-in-Ok
+gather_choice-returns-in-Ok t c = λ inputs level.
+    let x = item_of c.args.item.now in
+    let go : Tree → Item → Run Item = run c.args.self.now inputs level in
+    let test : go (named c.args.condition.now) (as_value x) ≡ one (plain (view c.in-Ok.test)) =
+    ap (λ (w : Value). go (named c.args.condition.now) (plain w)) (value_of_item c.args.item.now) ∙ c.in-Ok.ensures inputs level in
+    subst (λ r. Gathers (made inputs level c.args.rest.now) c.gather-else-truth.result c.args.into.now.items c.gather-else-truth.new.into.items (bind r (rest_run inputs level c.args.rest.now)))
+    (sym (picks_fails (go (named c.args.condition.now) (as_value x)) (view c.in-Ok.test) (go (named c.args.holds.now)) (go (named c.args.fails.now)) x test (sym c.truth.ensures ∙ c.if-truth.false)))
+    (c.gather-else-truth.ensures inputs level)
+
+pub gather_choice-returns : goal.gather_choice-returns
+gather_choice-returns t c = λ inputs level.
+    let x = item_of c.args.item.now in
+    let go : Tree → Item → Run Item = run c.args.self.now inputs level in
+    let r = go (named c.args.condition.now) (as_value x) in
+    let test : Item → Run Item = on_test (go (named c.args.holds.now)) (go (named c.args.fails.now)) x in
+    let later : Item → Run Item = rest_run inputs level c.args.rest.now in
+    c.ended.ensures inputs level c.args.rest.now (bind (bind r test) later) c.args.into.now.items
+    (ends-bind c.in-Err.stop (bind r test) later (ends-bind c.in-Err.stop r test
+    (subst (λ (w : Value). Ends c.in-Err.stop (go (named c.args.condition.now) (plain w))) (sym (value_of_item c.args.item.now)) (c.in-Err.ensures inputs level))))
+
+pub gather_binding-returns-in_ok-input-in-Whole : goal.gather_binding-returns-in_ok-input-in-Whole
+gather_binding-returns-in_ok-input-in-Whole t c = λ inputs level.
+    let p = c.args.self.now in
+    let x = item_of c.args.item.now in
+    let later : Item → Run Item = rest_run inputs level c.args.rest.now in
+    let source : Item → Run Item = run p inputs level (named c.args.source.now) in
+    let body = λ (y : Item). bind (meaning p.depth (named c.args.body.now) (bound (value_of (text_of c.in-Whole.name) (value_in y)) (scope_env inputs p.scope.now)) level x) later in
+    let input : item_of c.plain-input.result ≡ as_value x = c.plain-input.ensures ∙ ap plain (c.in_ok-copy-in-Whole.ensures ∙ sym (value_of_item c.args.item.now)) in
+    let same = bound_rest (below p.depth) (source (as_value x)) (text_of c.in-Whole.name) (scope_env inputs p.scope.now) level (meaning p.depth (named c.args.body.now)) x later in
+    subst (λ q. Gathers (made inputs level c.args.rest.now) c.gather.result c.args.into.now.items c.gather.new.into.items (bind (run p inputs level (bind_as (named c.args.source.now) q (named c.args.body.now)) x) later))
+    (sym (ap named_as_pattern c.in-Whole.is ∙ named-Whole c.in-Whole.name))
+    (subst (Gathers (made inputs level c.args.rest.now) c.gather.result c.args.into.now.items c.gather.new.into.items) (ap (λ y. bind (source y) body) input ∙ sym same) (c.gather.ensures inputs level))
+
+pub gather_call-returns-in-Function : goal.gather_call-returns-in-Function
+gather_call-returns-in-Function t c = λ inputs level.
+    subst (λ r. Gathers (made inputs level c.args.rest.now) c.gather_function.result c.args.into.now.items c.gather_function.new.into.items (bind r (rest_run inputs level c.args.rest.now)))
+    (sym (function_runs c.args.self.now inputs level (name_of c.args.name.now) c.args.arguments.now c.in-Function.function.now c.in-Function.own (item_of c.args.item.now) (c.in-Function.ensures inputs)))
+    (c.gather_function.ensures inputs level)
+
+pub gather_prelude_call-returns-in-Function : goal.gather_prelude_call-returns-in-Function
+gather_prelude_call-returns-in-Function t c = λ inputs level.
+    subst (λ r. Gathers (made inputs level c.args.rest.now) c.gather_function.result c.args.into.now.items c.gather_function.new.into.items (bind r (rest_run inputs level c.args.rest.now)))
+    (sym (prelude_runs c.args.self.now inputs level (name_of c.args.name.now) c.args.arguments.now c.in-Function.function.now c.in-Function.own (item_of c.args.item.now) (c.in-Function.ensures inputs)))
+    (c.gather_function.ensures inputs level)
+
+pub gather_call-returns-in-Closure : goal.gather_call-returns-in-Closure
+gather_call-returns-in-Closure t c = λ inputs level.
+    subst (λ r. Gathers (made inputs level c.args.rest.now) c.gather_body.result c.args.into.now.items c.gather_body.new.into.items (bind r (rest_run inputs level c.args.rest.now)))
+    (sym (closure_runs c.args.self.now inputs level (name_of c.args.name.now) c.args.arguments.now (named c.in-Closure.body.now) c.in-Closure.own (item_of c.args.item.now) (c.in-Closure.ensures inputs)))
+    (c.gather_body.ensures inputs level)
+
+pub gather_call-returns-in-Nothing : goal.gather_call-returns-in-Nothing
+gather_call-returns-in-Nothing t c = λ inputs level.
+    let ts = c.args.arguments.now in
+    let means : meaning_of c.builtin_named-builtin.result ≡ builtin_named (name_of c.args.name.now) (length ts) =
+    c.builtin_named-builtin.ensures ∙ ap (λ bs. builtin_named (chars bs) (length ts)) c.as_str.ensures.value in
+    subst (λ r. Gathers (made inputs level c.args.rest.now) c.gather_builtin.result c.args.into.now.items c.gather_builtin.new.into.items (bind r (rest_run inputs level c.args.rest.now)))
+    (sym (builtin_runs c.args.self.now inputs level (name_of c.args.name.now) ts (meaning_of c.builtin_named-builtin.result) (item_of c.args.item.now) (c.in-Nothing.ensures inputs) means))
+    (c.gather_builtin.ensures inputs level)
+
+pub gather_function-returns : goal.gather_function-returns
+gather_function-returns t c = λ inputs level.
+    let p = c.args.self.now in
+    let f = c.args.function.now in
+    let e = with_arguments (map text_of f.parameters.items) (trees_of (map named c.args.arguments.now)) (scope_env inputs p.scope.now) (scope_env inputs c.args.own.now) in
+    subst (λ r. Gathers (made inputs level c.args.rest.now) c.gather.result c.args.into.now.items c.gather.new.into.items (bind r (rest_run inputs level c.args.rest.now)))
+    (body_runs e p.depth (p.depth - 1) level (named f.body) (item_of c.args.item.now) (omega arith))
+    (c.gather.ensures inputs level)
+
+pub gather_body-returns : goal.gather_body-returns
+gather_body-returns t c = λ inputs level.
+    let depth = c.args.self.now.depth in
+    subst (λ r. Gathers (made inputs level c.args.rest.now) c.gather.result c.args.into.now.items c.gather.new.into.items (bind r (rest_run inputs level c.args.rest.now)))
+    (body_runs (scope_env inputs c.args.own.now) depth (depth - 1) level (named c.args.body.now) (item_of c.args.item.now) (omega arith))
+    (c.gather.ensures inputs level)
+
+pub gather_builtin-returns-in-Range : goal.gather_builtin-returns-in-Range
+gather_builtin-returns-in-Range t c = λ inputs level.
+    let ts = trees_of (map named c.args.arguments.now) in
+    subst (λ r. Gathers (made inputs level c.args.rest.now) c.gather_range.result c.args.into.now.items c.gather_range.new.into.items (bind r (rest_run inputs level c.args.rest.now)))
+    (sym (ap (λ b. builtin_in c.args.self.now inputs level (meaning_of b) ts (item_of c.args.item.now)) c.in-Range.is
+    ∙ ap (builtin_in c.args.self.now inputs level meaning.range ts) (absent c.args.item.now (sym c.is_present.ensures ∙ c.if-is_present.false))))
+    (c.gather_range.ensures inputs level)
+
+pub gather_builtin-returns-in-Paths : goal.gather_builtin-returns-in-Paths
+gather_builtin-returns-in-Paths t c = λ inputs level.
+    let ts = trees_of (map named c.args.arguments.now) in
+    subst (λ r. Gathers (made inputs level c.args.rest.now) c.gather_paths.result c.args.into.now.items c.gather_paths.new.into.items (bind r (rest_run inputs level c.args.rest.now)))
+    (sym (ap (λ b. builtin_in c.args.self.now inputs level (meaning_of b) ts (item_of c.args.item.now)) c.in-Paths.is
+    ∙ ap (builtin_in c.args.self.now inputs level meaning.paths ts) (absent c.args.item.now (sym c.is_present.ensures ∙ c.if-is_present.false))))
+    (c.gather_paths.ensures inputs level)
+
+pub gather_builtin-returns-in-Ok : goal.gather_builtin-returns-in-Ok
+gather_builtin-returns-in-Ok t c = λ inputs level.
+    let go : Item → Run Item = builtin_in c.args.self.now inputs level (meaning_of c.args.builtin) (trees_of (map named c.args.arguments.now)) in
+    subst (λ r. Gathers (made inputs level c.args.rest.now) c.give.result c.args.into.now.items c.give.new.into.items (bind r (rest_run inputs level c.args.rest.now)))
+    (ap one c.plain-found.ensures ∙ sym (ap go (absent c.args.item.now (sym c.is_present.ensures ∙ c.if-is_present.false) ∙ ap plain (sym c.in_ok-output.ensures)) ∙ c.in-Ok.ensures.runs inputs level))
+    (c.give.ensures inputs level)
+
+pub gather_builtin-returns-in-Err : goal.gather_builtin-returns-in-Err
+gather_builtin-returns-in-Err t c = λ inputs level.
+    let go : Item → Run Item = builtin_in c.args.self.now inputs level (meaning_of c.args.builtin) (trees_of (map named c.args.arguments.now)) in
+    let r = go (item_of c.args.item.now) in
+    let later : Item → Run Item = rest_run inputs level c.args.rest.now in
+    c.ended.ensures inputs level c.args.rest.now (bind r later) c.args.into.now.items
+    (ends-bind c.in-Err.stop r later
+    (subst (λ x. Ends c.in-Err.stop (go x)) (ap plain c.in_ok-output.ensures ∙ sym (absent c.args.item.now (sym c.is_present.ensures ∙ c.if-is_present.false))) (c.in-Err.ensures.runs inputs level)))
+
+pub gather_paths-returns-in_ok-start-in-len1 : goal.gather_paths-returns-in_ok-start-in-len1
+gather_paths-returns-in_ok-start-in-len1 t c = λ inputs level.
+    let p = c.args.self.now in
+    let ts = c.args.arguments.now in
+    let v = view c.args.value.now in
+    let first = c.argument-item.result in
+    let only : length ts ≡ 1 = omega (arith, c.in-len1.len_at_least, c.in-len1.len_below) in
+    let later : Item → Run Item = rest_run inputs level c.args.rest.now in
+    let go : Item → Run Item = run p inputs level (named first) in
+    subst (Gathers (made inputs level c.args.rest.now) c.gather.result c.args.into.now.items c.gather.new.into.items)
+    (ap (λ (x : Item). bind (go x) (λ y. bind (path_item y) later)) c.in_ok-start-in-len1.ensures
+    ∙ sym (ap (λ q. bind q later) (path_given p inputs level ts first v only c.argument-item.is) ∙ paths-rest (go (located v [])) later))
+    (c.gather.ensures inputs level)
+
+pub give_step-returns-in_ok-outputs : goal.give_step-returns-in_ok-outputs
+give_step-returns-in_ok-outputs t c = λ inputs level.
+    subst (λ r. Gathers (made inputs level c.args.later.now) c.give_outputs.result c.args.into.now.items c.give_outputs.new.into.items (bind r (rest_run inputs level c.args.later.now)))
+    c.in_ok-outputs.ensures (c.give_outputs.ensures inputs level)
+
+pub give_outputs-returns-in-Error : goal.give_outputs-returns-in-Error
+give_outputs-returns-in-Error t c = λ inputs level.
+    let later : Item → Run Item = rest_run inputs level c.args.rest.now in
+    gathers-fail inputs level c.args.rest.now c.args.into.now.items (view c.in-Error.error) (bind (outputs_of c.args.outputs) later) (ap (λ o. bind (outputs_of o) later) c.in-Error.is)
+
+pub give_several-returns : goal.give_several-returns
+give_several-returns t c = λ inputs level.
+    let given = c.loop-item.into.items in
+    let later : Item → Run Item = rest_run inputs level c.args.rest.now in
+    let none_left : given_of c.loop-item.items.items ≡ none = search rules in
+    c.loop-item.invariant inputs level (Ok (tt {0})) given
+    (gathers-none (made inputs level c.args.rest.now) (tt {0}) given (bind (given_of c.loop-item.items.items) later) (ap (λ r. bind r later) none_left))
+
+pub give_several-returns-in-Err : goal.give_several-returns-in-Err
+give_several-returns-in-Err t c = λ inputs level.
+    let later : Item → Run Item = rest_run inputs level c.args.rest.now in
+    c.loop-item.invariant inputs level (Err c.in-Err.stop) []
+    (stops_first (made inputs level c.args.rest.now) c.in-Err.stop c.loop-item.into.items _ _ (item_of c.in-Some.item) later c.in-Some.ensures (c.in-Err.ensures inputs level))
+
+pub give_several-loop-item-preserved : goal.give_several-loop-item-preserved
+give_several-loop-item-preserved t c = λ inputs level a ys h.
+    let later : Item → Run Item = rest_run inputs level c.args.rest.now in
+    c.loop-item.invariant inputs level a ys
+    (gives_first (made inputs level c.args.rest.now) c.in-Ok.field-0 a c.loop-item.into.items c.give.new.into.items ys _ _ (item_of c.in-Some.item) later c.in-Some.ensures (c.in-Ok.ensures inputs level) h)
+
+pub give-returns-in-Fold : goal.give-returns-in-Fold
+give-returns-in-Fold t c = λ inputs level.
+    let x = item_of c.args.item.now in
+    subst (λ (l : Rest). Gathers (made inputs level l) c.turn.result c.args.into.now.items c.turn.new.states.items (bind (one x) (rest_run inputs level l))) (sym c.in-Fold.is) (c.turn.ensures inputs level)
+
+pub gather_range-returns-in-Ok-Ok : goal.gather_range-returns-in-Ok-Ok
+gather_range-returns-in-Ok-Ok t c = λ inputs level.
+    let p = c.args.self.now in
+    let ts = c.args.arguments.now in
+    let v = view c.args.value.now in
+    let first = c.start-item.result in
+    let second = c.end-item.result in
+    let two : length ts ≡ 2 = omega (arith, c.in-len2.len_at_least, c.in-len2.len_below) in
+    let later : Item → Run Item = rest_run inputs level c.args.rest.now in
+    let start : Run Item = run p inputs level (named first) (plain v) in
+    let end : Run Item = run p inputs level (named second) (plain v) in
+    let next : Item → Run Item = λ x. bind end (λ y. range_of (value_in x ∷ value_in y ∷ [])) in
+    let r : Run Item = builtin_in p inputs level meaning.range (trees_of (map named ts)) (plain v) in
+    let same : r ≡ bind start next = two_chosen p inputs level range_of ts first second v two c.start-item.is c.end-item.is in
+    let low : Item = plain (view c.in-Ok.first) in
+    let numbers : Item → Run Item = λ y. range_of (view c.in-Ok.first ∷ value_in y ∷ []) in
+    subst (λ q. Gathers (made inputs level c.args.rest.now) c.give_range.result c.args.into.now.items c.give_range.new.into.items (bind q later))
+    (sym (same ∙ bind-known start low next (c.in-Ok.ensures inputs level) ∙ bind-known end (plain (view c.in-Ok-Ok.last)) numbers (c.in-Ok-Ok.ensures inputs level)))
+    (c.give_range.ensures inputs level)
+
+pub gather_range-returns-in-Err : goal.gather_range-returns-in-Err
+gather_range-returns-in-Err t c = λ inputs level.
+    let p = c.args.self.now in
+    let ts = c.args.arguments.now in
+    let v = view c.args.value.now in
+    let first = c.start-item.result in
+    let second = c.end-item.result in
+    let two : length ts ≡ 2 = omega (arith, c.in-len2.len_at_least, c.in-len2.len_below) in
+    let later : Item → Run Item = rest_run inputs level c.args.rest.now in
+    let start : Run Item = run p inputs level (named first) (plain v) in
+    let end : Run Item = run p inputs level (named second) (plain v) in
+    let next : Item → Run Item = λ x. bind end (λ y. range_of (value_in x ∷ value_in y ∷ [])) in
+    let r : Run Item = builtin_in p inputs level meaning.range (trees_of (map named ts)) (plain v) in
+    let same : r ≡ bind start next = two_chosen p inputs level range_of ts first second v two c.start-item.is c.end-item.is in
+    c.ended.ensures inputs level c.args.rest.now (bind r later) c.args.into.now.items
+    (ends-bind c.in-Err.stop r later (subst (Ends c.in-Err.stop) (sym same) (ends-bind c.in-Err.stop start next (c.in-Err.ensures inputs level))))
+
+pub gather_range-returns-in-Ok-Err : goal.gather_range-returns-in-Ok-Err
+gather_range-returns-in-Ok-Err t c = λ inputs level.
+    let p = c.args.self.now in
+    let ts = c.args.arguments.now in
+    let v = view c.args.value.now in
+    let first = c.start-item.result in
+    let second = c.end-item.result in
+    let two : length ts ≡ 2 = omega (arith, c.in-len2.len_at_least, c.in-len2.len_below) in
+    let later : Item → Run Item = rest_run inputs level c.args.rest.now in
+    let start : Run Item = run p inputs level (named first) (plain v) in
+    let end : Run Item = run p inputs level (named second) (plain v) in
+    let next : Item → Run Item = λ x. bind end (λ y. range_of (value_in x ∷ value_in y ∷ [])) in
+    let r : Run Item = builtin_in p inputs level meaning.range (trees_of (map named ts)) (plain v) in
+    let same : r ≡ bind start next = two_chosen p inputs level range_of ts first second v two c.start-item.is c.end-item.is in
+    let s = c.in-Ok-Err.stop in
+    let low : Item = plain (view c.in-Ok.first) in
+    let numbers : Item → Run Item = λ y. range_of (view c.in-Ok.first ∷ value_in y ∷ []) in
+    c.ended-in-Ok-Err.ensures inputs level c.args.rest.now (bind r later) c.args.into.now.items
+    (ends-bind s r later (subst (Ends s) (sym same) (ends-after s start low next (c.in-Ok.ensures inputs level) (ends-bind s end numbers (c.in-Ok-Err.ensures inputs level)))))
+
+pub give_numbers-returns : goal.give_numbers-returns
+give_numbers-returns t c = λ inputs level.
+    let given = c.loop-value.into.items in
+    let later : Item → Run Item = rest_run inputs level c.args.rest.now in
+    let none_left : numbers_from c.loop-value.next (to_z w64 (of_z w64 c.args.end)) ≡ none = search rules in
+    simp (to_z-of_z, c.ranges.first, c.ranges.end) at (c.loop-value.invariant inputs level (Ok (tt {0})) given
+    (gathers-none (made inputs level c.args.rest.now) (tt {0}) given (bind (numbers_from c.loop-value.next (to_z w64 (of_z w64 c.args.end))) later) (ap (λ r. bind r later) none_left)))
+
+pub give_numbers-returns-in-Err : goal.give_numbers-returns-in-Err
+give_numbers-returns-in-Err t c = λ inputs level.
+    let later : Item → Run Item = rest_run inputs level c.args.rest.now in
+    simp (to_z-of_z, c.ranges.first, c.ranges.end) at (c.loop-value.invariant inputs level (Err c.in-Err.stop) []
+    (stops_first (made inputs level c.args.rest.now) c.in-Err.stop c.loop-value.into.items _ _ (plain (view c.in-Some.value)) later c.in-Some.ensures (c.in-Err.ensures inputs level)))
+
+pub give_numbers-loop-value-preserved : goal.give_numbers-loop-value-preserved
+give_numbers-loop-value-preserved t c = λ inputs level a ys h.
+    let later : Item → Run Item = rest_run inputs level c.args.rest.now in
+    c.loop-value.invariant inputs level a ys
+    (gives_first (made inputs level c.args.rest.now) c.in-Ok.field-0 a c.loop-value.into.items c.give.new.into.items ys _ _ (plain (view c.in-Some.value)) later c.in-Some.ensures (c.in-Ok.ensures inputs level) h)
+
+-- ---- strings
+
+pub first_piece-returns-in_ok-text_in_format : goal.first_piece-returns-in_ok-text_in_format
+unfolding on_back on_inserted
+first_piece-returns-in_ok-text_in_format t c = λ inputs level.
+    let p = c.args.self.now in
+    let f = name_of c.args.format.now in
+    let x = plain (view c.args.value.now) in
+    let piece = c.args.piece.now in
+    let later = pieces_with (below p.depth) (named_pieces c.args.later.now c.args.last.now) f (scope_env inputs p.scope.now) level x in
+    let filter = run p inputs level (named piece.tree) x in
+    let front = text_of piece.before in
+    let back = text_of (string_in c.in_ok-back.back) in
+    let expected = format_of f (view c.in_ok-found.found) in
+    let made = c.in_ok-text_in_format.field-0 in
+    text-bind c.inserted.result later back (on_back f front filter) (c.in_ok-back.ensures inputs level)
+    (text-bind c.inserted.result filter (plain (view c.in_ok-found.found)) (on_inserted f front back) (c.in_ok-found.ensures inputs level)
+    (c.inserted.ensures front back expected (subst (λ (bs : List ℕ). Inserts (chars bs) expected back made) c.as_str-front.ensures.value (subst (λ (bs : List ℕ). Inserts (chars c.as_str-front.result.now) expected (chars bs) made) c.as_str-in_ok-found.ensures c.in_ok-text_in_format.ensures))))
+
+-- ---- objects
+
+pub entry-returns-in_ok-key-in-Named : goal.entry-returns-in_ok-key-in-Named
+entry-returns-in_ok-key-in-Named t c = λ inputs level.
+    let p = c.args.self.now in
+    let v = view c.args.value.now in
+    let es = named_entries c.args.later.now in
+    let made = members_in c.args.made in
+    subst (λ (e : Entry). Answers c.member.result (entries_in p inputs level (more_entries e es) v made)) (sym (ap named_entry c.in-Named.is))
+    (subst (λ (s : List ℕ). Answers c.member.result (bind (run p inputs level (named c.in-Named.filter) (plain v)) (on_entry (entries_in p inputs level es v) made s))) c.in_ok-key-in-Named.ensures
+    (c.member.ensures inputs level))
+
+pub computed-returns-in_ok-found : goal.computed-returns-in_ok-found
+unfolding on_entry_key
+computed-returns-in_ok-found t c = λ inputs level.
+    let p = c.args.self.now in
+    let v = view c.args.value.now in
+    let later : Members → Run Item = entries_in p inputs level (named_entries c.args.later.now) v in
+    let filter = run p inputs level (named c.args.filter.now) (plain v) in
+    answers-bind c.member.result (run p inputs level (named c.args.key.now) (plain v)) (plain (view c.in_ok-found.found)) (on_entry_key filter later (members_in c.args.made)) (c.in_ok-found.ensures inputs level)
+    (rw c.into_text.ensures (c.member.ensures inputs level))
+
+pub computed-returns-in_err-found : goal.computed-returns-in_err-found
+computed-returns-in_err-found t c = λ inputs level.
+    let p = c.args.self.now in
+    let v = view c.args.value.now in
+    let later : Members → Run Item = entries_in p inputs level (named_entries c.args.later.now) v in
+    let filter = run p inputs level (named c.args.filter.now) (plain v) in
+    stops c.from_residual.result c.in_err-found.field-0.0 _ c.from_residual.ensures.1
+    (ends-bind c.in_err-found.field-0.0 (run p inputs level (named c.args.key.now) (plain v)) (on_entry_key filter later (members_in c.args.made)) (c.in_err-found.ensures inputs level))
+
+pub member-returns-in_ok-longer : goal.member-returns-in_ok-longer
+unfolding on_entry
+member-returns-in_ok-longer t c = λ inputs level.
+    let p = c.args.self.now in
+    let v = view c.args.value.now in
+    let later : Members → Run Item = entries_in p inputs level (named_entries c.args.later.now) v in
+    let filter = run p inputs level (named c.args.filter.now) (plain v) in
+    answers-bind c.entries.result filter (plain (view c.in_ok-found.found)) (on_entry later (members_in c.args.made) (text_of (string_in c.args.key.now)))
+    (c.in_ok-found.ensures inputs level)
+    (subst (λ (m : Members). Answers c.entries.result (later m)) c.in_ok-longer.ensures (c.entries.ensures inputs level))
+
+pub member-returns-in_err-found : goal.member-returns-in_err-found
+member-returns-in_err-found t c = λ inputs level.
+    let p = c.args.self.now in
+    let v = view c.args.value.now in
+    let later : Members → Run Item = entries_in p inputs level (named_entries c.args.later.now) v in
+    let filter = run p inputs level (named c.args.filter.now) (plain v) in
+    stops c.from_residual.result c.in_err-found.field-0.0 _ c.from_residual.ensures.1
+    (ends-bind c.in_err-found.field-0.0 filter (on_entry later (members_in c.args.made) (text_of (string_in c.args.key.now))) (c.in_err-found.ensures inputs level))
+
+-- ---- folds
+
+pub change_reduce-returns-in-Err-clause-keeps : goal.change_reduce-returns-in-Err-clause-keeps
+change_reduce-returns-in-Err-clause-keeps t c = leaves_same c.in-Err.stop (view c.args.value.now)
+
+pub fold-returns-in-Some : goal.fold-returns-in-Some
+fold-returns-in-Some t c = λ inputs level.
+    let p = c.args.self.now in
+    let v = view c.args.value.now in
+    let n = text_of c.args.name.now in
+    let u = named c.args.update.now in
+    let e = scope_env inputs p.scope.now in
+    let source : Item → Run Item = run p inputs level (named c.args.source.now) in
+    let held = c.keep.new.states.items in
+    let input : item_of c.plain-input.result ≡ plain v = c.plain-input.ensures ∙ ap plain c.in_ok-copy.ensures in
+    let result : Run Item = one (plain (view c.in-Some.state)) in
+    fold_ends (below p.depth) level n e (meaning p.depth u) (source (plain v)) held (view c.args.state) result c.in_ok-keep.ensures
+    (subst (λ (x : Item). folded p inputs level n u held (then_run (bind (source x) one) none) ≡ result) input (c.in-Ok.ensures inputs level none ∙ ap one c.in-Some.ensures))
+
+pub fold-returns : goal.fold-returns
+fold-returns t c = λ inputs level.
+    let p = c.args.self.now in
+    let v = view c.args.value.now in
+    let n = text_of c.args.name.now in
+    let u = named c.args.update.now in
+    let e = scope_env inputs p.scope.now in
+    let source : Item → Run Item = run p inputs level (named c.args.source.now) in
+    let held = c.keep.new.states.items in
+    let input : item_of c.plain-input.result ≡ plain v = c.plain-input.ensures ∙ ap plain c.in_ok-copy.ensures in
+    let s = c.in-Err.stop in
+    subst (Ends s)
+    (sym (fold_ends (below p.depth) level n e (meaning p.depth u) (source (plain v)) held (view c.args.state)
+    (folded p inputs level n u held (then_run (bind (source (plain v)) one) none)) c.in_ok-keep.ensures refl))
+    (subst (λ (x : Item). Ends s (folded p inputs level n u held (then_run (bind (source x) one) none))) input (c.in-Err.ensures inputs level none))
+
+pub gather_source-returns-in_ok-copy : goal.gather_source-returns-in_ok-copy
+gather_source-returns-in_ok-copy t c =
+    gathers_all c.args.self.now (named c.args.source.now) (view c.args.value.now) c.args.most c.gather.result c.args.into.now.items c.gather.new.into.items (item_of c.plain-input.result)
+    (c.plain-input.ensures ∙ ap plain c.in_ok-copy.ensures) c.requires c.gather.ensures
+
+pub change_fold-returns-in-Some-clause-runs : goal.change_fold-returns-in-Some-clause-runs
+change_fold-returns-in-Some-clause-runs t c = λ inputs level.
+    let p = c.args.self.now in
+    let v = view c.args.value.now in
+    let n = text_of c.args.name.now in
+    let r = run p inputs level (named c.args.source.now) (plain v) in
+    let single = c.in-Some.single.now in
+    let same : gathered r ≡ one (plain (array (items_of (view single ∷ [])))) =
+    c.in-Ok.ensures inputs level ∙ ap (λ (xs : List Val). one (plain (array (items_of (map view xs))))) (sym c.as_slice.ensures.value ∙ c.in-Some.ensures) in
+    subst (Changed c.step.result (view c.step.new.state))
+    (sym (single_fold (below p.depth) level n (scope_env inputs p.scope.now) (meaning p.depth (named c.args.update.now)) r.items r.ending (view single) (plain v) same))
+    (goes-changed c.step.result (view c.step.new.state) _ (c.step.ensures.runs inputs level one))
+
+pub change_reduce-returns-in-Whole-clause-runs : goal.change_reduce-returns-in-Whole-clause-runs
+change_reduce-returns-in-Whole-clause-runs t c = λ inputs level.
+    let p = c.args.self.now in
+    let x : Item = plain (view c.args.value.now) in
+    let sources = bind (run p inputs level (named c.args.source.now) x) (on_source (bindings_with (below p.depth) (whole (text_of c.in-Whole.name)) level) (scope_env inputs p.scope.now)) in
+    subst (λ q. Changed c.change_fold.result (view c.change_fold.new.value) (run p inputs level (reduce (named c.args.source.now) q (named c.args.start.now) (named c.args.update.now)) x))
+    (sym (ap named_as_pattern c.in-Whole.is ∙ named-Whole c.in-Whole.name))
+    (subst (λ s. Changed c.change_fold.result (view c.change_fold.new.value) (run p inputs level (reduce (named c.args.source.now) (whole (text_of c.in-Whole.name)) s (named c.args.update.now)) x))
+    (sym (ap named c.in-Identity.is))
+    (changed-bind c.change_fold.result (view c.change_fold.new.value) (one x) x (reduced (on_state (meaning p.depth (named c.args.update.now)) level) sources.items sources.ending)
+    refl (c.change_fold.ensures.runs inputs level)))
+
+pub reduce-returns-in_ok-state-in-Whole : goal.reduce-returns-in_ok-state-in-Whole
+reduce-returns-in_ok-state-in-Whole t c = λ inputs level.
+    let p = c.args.self.now in
+    let x = plain (view c.args.value.now) in
+    let sources = bind (run p inputs level (named c.args.source.now) x) (on_source (bindings_with (below p.depth) (whole (text_of c.in-Whole.name)) level) (scope_env inputs p.scope.now)) in
+    subst (λ q. Answers c.fold.result (run p inputs level (reduce (named c.args.source.now) q (named c.args.start.now) (named c.args.update.now)) x))
+    (sym (ap named_as_pattern c.in-Whole.is ∙ named-Whole c.in-Whole.name))
+    (answers-bind c.fold.result (run p inputs level (named c.args.start.now) x) (plain (view c.in_ok-state-in-Whole.state)) (reduced (on_state (meaning p.depth (named c.args.update.now)) level) sources.items sources.ending)
+    (c.in_ok-state-in-Whole.ensures inputs level) (c.fold.ensures inputs level))
+
+pub reduce-returns-in_err-state-in-Whole : goal.reduce-returns-in_err-state-in-Whole
+reduce-returns-in_err-state-in-Whole t c = λ inputs level.
+    let p = c.args.self.now in
+    let x = plain (view c.args.value.now) in
+    let sources = bind (run p inputs level (named c.args.source.now) x) (on_source (bindings_with (below p.depth) (named_as_pattern c.args.pattern.now) level) (scope_env inputs p.scope.now)) in
+    let s = c.in_err-state-in-Whole.field-0.0 in
+    stops c.from_residual-in_err-state-in-Whole.result s _ c.from_residual-in_err-state-in-Whole.ensures.1
+    (ends-bind s (run p inputs level (named c.args.start.now) x) (reduced (on_state (meaning p.depth (named c.args.update.now)) level) sources.items sources.ending) (c.in_err-state-in-Whole.ensures inputs level))
+
+pub turn-returns-in_ok-keep-in-Ok : goal.turn-returns-in_ok-keep-in-Ok
+turn-returns-in_ok-keep-in-Ok t c = λ inputs level.
+    let q = c.args.context.now in
+    let x = plain (view c.args.value.now) in
+    let goes : Item → Item → Run Item = turn q inputs level (text_of c.args.name.now) (named c.args.update.now) in
+    let ys = c.keep.new.states.items in
+    turned (Ok (tt {0})) goes x c.args.states.now.items ys
+    (λ go. subst (λ (z : Item). next_state z (goes x z) go ≡ go (state_in ys)) (sym c.in-Some.ensures) (c.in-Ok.ensures.runs inputs level go ∙ ap go (sym c.in_ok-keep-in-Ok.ensures)))
+
+pub turn-returns-in-Err : goal.turn-returns-in-Err
+turn-returns-in-Err t c = λ inputs level.
+    let q = c.args.context.now in
+    let x = plain (view c.args.value.now) in
+    let goes : Item → Item → Run Item = turn q inputs level (text_of c.args.name.now) (named c.args.update.now) in
+    turned (Err c.in-Err.stop) goes x c.args.states.now.items []
+    (λ go. subst (λ (z : Item). Ends c.in-Err.stop (next_state z (goes x z) go)) (sym c.in-Some.ensures) (c.in-Err.ensures.runs inputs level go))
+
+-- ---- updates
+
+pub change_turn-returns-in-Some-clause-runs : goal.change_turn-returns-in-Some-clause-runs
+unfolding updates.turned
+change_turn-returns-in-Some-clause-runs t c = λ inputs level.
+    subst (λ (u : Tree). Changed c.change_by_names.result (view c.change_by_names.new.value) (run c.args.self.now inputs level u (plain (view c.args.value.now))))
+    (sym c.in-Some.ensures.same) (c.change_by_names.ensures.runs inputs level)
+
+pub run_turn-returns-in-Ok-clause-runs : goal.run_turn-returns-in-Ok-clause-runs
+run_turn-returns-in-Ok-clause-runs t c = λ inputs e k around.
+    let v = view c.args.value.now in
+    let own = scope_env inputs c.args.own.now in
+    let w = view c.change_body.new.value in
+    let a = c.put_part.result in
+    let later = view c.put_part.new.held in
+    let got : getpath_native_of (first_of v) (view c.args.path.now) ≡ Ok (view c.in-Some.part) =
+    getpath_keys (first_of v) c.args.path.now c.in-List.keys c.as_slice-keys.result.now c.in-List.is c.as_slice-keys.ensures ∙ c.in-Some.ensures.part in
+    let set = setpath_keys (first_of v) w c.args.path.now c.in-List.keys c.as_slice-keys.result.now c.in-List.is c.as_slice-keys.ensures in
+    put_turn c.args.self.now.depth k e (view c.args.path.now) (named c.args.body.now) own v (view c.in-Some.part) around c.in-Some.ensures.state got a w later
+    (c.in-Ok.ensures.runs inputs (suc k))
+    (subst (λ z. PutsFirst a z (second_of v) later) (sym set) c.put_part.ensures.puts)
+
+pub run_turn-returns-in-Err-Nothing-clause-runs : goal.run_turn-returns-in-Err-Nothing-clause-runs
+run_turn-returns-in-Err-Nothing-clause-runs t c = λ inputs e k around.
+    let v = view c.args.value.now in
+    let own = scope_env inputs c.args.own.now in
+    let a = c.keep_path.result in
+    let later = view c.keep_path.new.held in
+    let got : getpath_native_of (first_of v) (view c.args.path.now) ≡ Ok (view c.in-Some.part) =
+    getpath_keys (first_of v) c.args.path.now c.in-List.keys c.as_slice-keys.result.now c.in-List.is c.as_slice-keys.ensures ∙ c.in-Some.ensures.part in
+    keep_turn c.args.self.now.depth k e (view c.args.path.now) (named c.args.body.now) own v (view c.in-Some.part) around c.in-Some.ensures.state got a later
+    ((rw c.in-Err-Nothing.field-0-is at c.in-Err-Nothing.ensures.runs) inputs (suc k))
+    (subst (λ z. PutsSecond a (add_of (second_of v) (array (items_of (z ∷ [])))) (first_of v) later) c.in_ok-copy-in-Err-Nothing.ensures c.keep_path.ensures.puts)
+
+pub run_turn-returns-in-Err-Raised-clause-runs : goal.run_turn-returns-in-Err-Raised-clause-runs
+run_turn-returns-in-Err-Raised-clause-runs t c = λ inputs e k around.
+    let v = view c.args.value.now in
+    let own = scope_env inputs c.args.own.now in
+    let got : getpath_native_of (first_of v) (view c.args.path.now) ≡ Ok (view c.in-Some.part) =
+    getpath_keys (first_of v) c.args.path.now c.in-List.keys c.as_slice-keys.result.now c.in-List.is c.as_slice-keys.ensures ∙ c.in-Some.ensures.part in
+    raising_turn c.args.self.now.depth k e (view c.args.path.now) (named c.args.body.now) own v (view c.in-Some.part) around c.in-Some.ensures.state got (Unit {0}) c.in-Err-Raised.error v
+    ((rw c.in-Err-Raised.field-0-is at c.in-Err-Raised.ensures.runs) inputs (suc k))
+    ∙ ap (λ z. fail (view z)) (sym c.in-Err-Raised.error-is)
+
+pub change_by_names-returns-in_ok-path-in-Closure-clause-runs : goal.change_by_names-returns-in_ok-path-in-Closure-clause-runs
+change_by_names-returns-in_ok-path-in-Closure-clause-runs t c = λ inputs level.
+    let env = scope_env inputs c.args.self.now.scope.now in
+    let own = scope_env inputs c.in-Closure.own in
+    let around : Around env (view c.in_ok-path-in-Closure.path) (named c.in-Closure.body.now) own = record {
+      gets = ap (λ n. find_callee n 1 env) (sym c.requires.getter) ∙ c.in_ok-check_natives-in-Closure.ensures.gets inputs;
+      sets = ap (λ n. find_callee n 2 env) (sym c.requires.setter) ∙ c.in_ok-check_natives-in-Closure.ensures.sets inputs;
+      path = ap (λ n. find_value n env) (sym c.requires.path) ∙ sym (c.in_ok-path-in-Closure.ensures inputs);
+      passed = ap (λ n. find_callee n 0 env) (sym c.requires.filter) ∙ sym (c.in-Closure.ensures inputs);
+    } in
+    c.run_turn.ensures.runs inputs env level around
+
+pub update-returns-in-Ok : goal.update-returns-in-Ok
+update-returns-in-Ok t c = λ inputs level.
+    let p = c.args.self.now in
+    let x : Item = plain (view c.args.value.now) in
+    let env = scope_env inputs p.scope.now in
+    let go : Tree → Item → Run Item = run p inputs level in
+    let free : find_callee (codes "delpaths") 1 env ≡ no_callee = ap (λ n. find_callee n 1 env) (sym c.requires.remover) ∙ c.in_ok-check_unbound.ensures.unbound inputs in
+    let end : Value → Run Item = λ z. go shape.finish (plain z) in
+    subst (λ (u : Tree). Answers c.finished.result (go u x)) (sym c.requires.same)
+    (answers-bind c.finished.result (go (named c.args.update.fold.now) x) (plain (view c.in-Ok.state)) (go shape.finish) (c.in-Ok.ensures inputs level)
+    (c.finished.ensures end (λ y ds h. ap end h ∙ finish-run (below p.depth) env level y ds free)))
+
+pub change_update-returns-in-Some-clause-runs : goal.change_update-returns-in-Some-clause-runs
+unfolding updates.turned updates.updated
+change_update-returns-in-Some-clause-runs t c = λ inputs level.
+    let p = c.args.self.now in
+    let v = view c.args.value.now in
+    let r = run p inputs level (named c.args.update.source.now) (plain v) in
+    let path = c.in-Some.path.now in
+    let same : gathered r ≡ one (plain (array (items_of (view path ∷ [])))) =
+    c.in-Ok.ensures inputs level ∙ ap (λ (xs : List Val). one (plain (array (items_of (map view xs))))) (sym c.as_slice.ensures.value ∙ c.in-Some.ensures) in
+    subst (Changed c.change_at.result (view c.change_at.new.value))
+    (sym (update_once (below p.depth) level (scope_env inputs p.scope.now) (named c.args.tree.now) (named c.args.update.fold.now) (named c.args.update.source.now) v (view path) c.requires.same c.requires.fold same))
+    (c.change_at.ensures.runs inputs level)
+
+pub change_at-returns-in_ok-check_unbound-in-Closure-clause-runs : goal.change_at-returns-in_ok-check_unbound-in-Closure-clause-runs
+change_at-returns-in_ok-check_unbound-in-Closure-clause-runs t c = λ inputs level.
+    let env = scope_env inputs c.args.self.now.scope.now in
+    let own = scope_env inputs c.in-Closure.own in
+    let path = view c.args.path.now in
+    let turns = bound (value_of (codes "p") path) env in
+    let around : Around turns path (named c.in-Closure.body.now) own = record {
+      gets = ap (λ n. find_callee n 1 env) (sym c.requires.names.getter) ∙ c.in_ok-check_natives-in-Closure.ensures.gets inputs;
+      sets = ap (λ n. find_callee n 2 env) (sym c.requires.names.setter) ∙ c.in_ok-check_natives-in-Closure.ensures.sets inputs;
+      path = refl;
+      passed = ap (λ n. find_callee n 0 env) (sym c.requires.names.filter) ∙ sym (c.in-Closure.ensures inputs);
+    } in
+    let free : find_callee (codes "delpaths") 1 env ≡ no_callee = ap (λ n. find_callee n 1 env) (sym c.requires.remover) ∙ c.in_ok-check_unbound-in-Closure.ensures.unbound inputs in
+    c.change_part.ensures.runs inputs turns env level around free
+
+pub change_part-returns-in-Ok-clause-runs : goal.change_part-returns-in-Ok-clause-runs
+unfolding updates.turned updates.updated
+change_part-returns-in-Ok-clause-runs t c = λ inputs e f k around free.
+    let v = view c.args.value.now in
+    let path = view c.args.path.now in
+    let depth = c.args.self.now.depth in
+    let own = scope_env inputs c.args.own.now in
+    let w = view c.change_body.new.value in
+    let got : getpath_native_of v path ≡ Ok (view c.in-Some.part) =
+    getpath_keys v c.args.path.now c.in-List.keys c.as_slice.result.now c.in-List.is c.as_slice.ensures ∙ c.in-Some.ensures in
+    subst (Changed c.put_at.result (view c.put_at.new.value))
+    (sym (put_once (below depth) e f k v path (view c.in-Some.part) (named c.args.body.now) own around got free w (c.in-Ok.ensures.runs inputs (suc k))))
+    c.put_at.ensures.runs
+
+pub change_part-returns-in-Err-Nothing-clause-runs : goal.change_part-returns-in-Err-Nothing-clause-runs
+unfolding updates.turned updates.updated
+change_part-returns-in-Err-Nothing-clause-runs t c = λ inputs e f k around free.
+    let v = view c.args.value.now in
+    let path = view c.args.path.now in
+    let depth = c.args.self.now.depth in
+    let own = scope_env inputs c.args.own.now in
+    let got : getpath_native_of v path ≡ Ok (view c.in-Some.part) =
+    getpath_keys v c.args.path.now c.in-List.keys c.as_slice.result.now c.in-List.is c.as_slice.ensures ∙ c.in-Some.ensures in
+    subst (Changed c.delete_at.result (view c.delete_at.new.value))
+    (sym (delete_once (below depth) e f k v path (view c.in-Some.part) (named c.args.body.now) own around got free ((rw c.in-Err-Nothing.field-0-is at c.in-Err-Nothing.ensures.runs) inputs (suc k))))
+    c.delete_at.ensures.runs
+
+pub change_part-returns-in-Err-Raised-clause-runs : goal.change_part-returns-in-Err-Raised-clause-runs
+unfolding updates.turned updates.updated
+change_part-returns-in-Err-Raised-clause-runs t c = λ inputs e f k around free.
+    let v = view c.args.value.now in
+    let path = view c.args.path.now in
+    let depth = c.args.self.now.depth in
+    let own = scope_env inputs c.args.own.now in
+    let got : getpath_native_of v path ≡ Ok (view c.in-Some.part) =
+    getpath_keys v c.args.path.now c.in-List.keys c.as_slice.result.now c.in-List.is c.as_slice.ensures ∙ c.in-Some.ensures in
+    raise_once (below depth) e f k v path (view c.in-Some.part) (named c.args.body.now) own around got free (view c.in-Err-Raised.error) ((rw c.in-Err-Raised.field-0-is at c.in-Err-Raised.ensures.runs) inputs (suc k))
