@@ -9,14 +9,14 @@ use Rattle.jq_ast.specs.declared.tree.Tree as ast
 use Rattle.jq_tree.specs.Tree.{Name, Tree, trees_of, trees_count}
 use Rattle.jq_tree.specs.Tree as tree
 use Rattle.jq_meaning.specs.Builtins.{Builtin, builtin_named, builtin_run}
-use Rattle.jq_meaning.specs.Env.{Env, Callee, found_function, found_closure, no_callee, callee_or, find_callee, find_in_prelude, find_inputs}
+use Rattle.jq_meaning.specs.Env.{Env, Callee, found_function, found_closure, no_callee, callee_or, find_callee, find_in_prelude, find_inputs, with_arguments}
 use Rattle.jq_meaning.specs.Meaning.{arguments_with, below, called, meaning}
 use Rattle.jq_meaning.specs.Runs.{Run, Item, none}
 use Rattle.jq_operations.specs.Callees as callees
 use Rattle.jq_single.specs.declared.scopes.Scope.{Scope}
 use Rattle.jq_single.specs.declared.contexts.Context.{Context}
 use Rattle.jq_single.specs.private.Scopes.{scope_env}
-use Rattle.jq_single.specs.private.Parts.{body_in, builtin_in, function_in, run}
+use Rattle.jq_single.specs.private.Parts.{body_in, builtin_in, run}
 
 -- with the callee that is found
 finds : (p : Context) (inputs : Run Value) (level : ℕ) (n : Name) (ts : List ast.Tree) (c : Callee) (x : Item)
@@ -37,7 +37,7 @@ closure_runs p inputs level n ts t own x h = finds p inputs level n ts (found_cl
 
 pub function_runs : (p : Context) (inputs : Run Value) (level : ℕ) (n : Name) (ts : List ast.Tree) (f : Function ast.Tree) (own : Scope) (x : Item)
     → callees.found f (scope_env inputs own) ≡ find_callee n (length ts) (scope_env inputs p.scope.now)
-    → run p inputs level (tree.call n (trees_of (map named ts))) x ≡ function_in p f own inputs level (trees_of (map named ts)) x
+    → run p inputs level (tree.call n (trees_of (map named ts))) x ≡ below p.depth (named f.body) (with_arguments (map text_of f.parameters.items) (trees_of (map named ts)) (scope_env inputs p.scope.now) (scope_env inputs own)) level x
 function_runs p inputs level n ts f own x h = finds p inputs level n ts (callees.found f (scope_env inputs own)) x h
 
 pub builtin_runs : (p : Context) (inputs : Run Value) (level : ℕ) (n : Name) (ts : List ast.Tree) (b : Builtin) (x : Item)
@@ -64,7 +64,7 @@ or-more no_callee x y h = refl
 
 pub prelude_runs : (p : Context) (inputs : Run Value) (level : ℕ) (n : Name) (ts : List ast.Tree) (f : Function ast.Tree) (own : Scope) (x : Item)
     → callees.found f (scope_env inputs own) ≡ find_in_prelude n (length ts) (scope_env inputs p.scope.now)
-    → run p inputs level (tree.prelude_call n (trees_of (map named ts))) x ≡ function_in p f own inputs level (trees_of (map named ts)) x
+    → run p inputs level (tree.prelude_call n (trees_of (map named ts))) x ≡ below p.depth (named f.body) (with_arguments (map text_of f.parameters.items) (trees_of (map named ts)) (scope_env inputs p.scope.now) (scope_env inputs own)) level x
 prelude_runs p inputs level n ts f own x h =
     let us = trees_of (map named ts) in
     let e = scope_env inputs p.scope.now in

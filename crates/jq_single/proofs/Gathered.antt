@@ -42,6 +42,7 @@ made-fail inputs level (rest.End most) xs v = refl
 made-fail inputs level (rest.Then' t p q later) xs v = made-fail inputs level later xs v
 made-fail inputs level (rest.Bind' n t p w q later) xs v = made-fail inputs level later xs v
 made-fail inputs level (rest.Step' t q later) xs v = made-fail inputs level later xs v
+made-fail inputs level (rest.Path' q later) xs v = made-fail inputs level later xs v
 made-fail inputs level (rest.Fold n t p) xs v = refl
 
 pub gathers-fail : (inputs : Run Value) (level : ℕ) (later : Rest) (xs : List Val) (v : Value) (r : Run Item) → r ≡ fail v → (q : Run Item) → made inputs level later xs (then_run r q) ≡ fail v

@@ -1,4 +1,4 @@
-// Calls whose output replaces their input.
+// Calls of one output, and those whose output replaces their input.
 ghost use Rattle.std.specs.Prelude.{map};
 ghost use Rattle.jv_meaning.specs.Value.{Value};
 ghost use Rattle.jv_data.specs.View.{view};
@@ -9,13 +9,13 @@ ghost use Rattle.jq_operations.specs.Language.{meaning_of};
 ghost use Rattle.jq_meaning.specs.Builtins.{plain_native};
 ghost use Rattle.jq_meaning.specs.Builtins as meaning;
 ghost use Rattle.jq_single.specs.Single.{Changed, Keeps};
-ghost use Rattle.jq_single.specs.private.Parts.{ChangesBelow, ChangesByBuiltin, ChangesByFunction, ChangesByNative, ChangesTo};
+ghost use Rattle.jq_single.specs.private.Parts.{ChangesBelow, ChangesByBuiltin, ChangesByNative, ChangesTo, RunsBelow, RunsBuiltin, RunsTo};
 
 use crate::contexts::Context;
 use crate::finding::{Found, callee_of, prelude_of};
 use crate::scopes::Scope;
 use crate::stops::Stop;
-use jq_ast::{Function, Name, Tree};
+use jq_ast::{Name, Tree};
 use jq_natives::{Native, call_in_place};
 use jq_operations::{Builtin, builtin_named};
 use jv_data::{Fail, Val};
@@ -26,23 +26,87 @@ impl<'s> Context<'s> {
     /// `a(f; g)`: a call of a function, of a filter that was passed, or of a name of the language.
     #[cycle(single)]
     #[inline(never)]
+    pub(crate) fn get_call(
+        &self,
+        name: &Name,
+        arguments: &'s Vec<Tree>,
+        value: &Val,
+    ) -> Result<Val, Stop>
+        ensures { RunsTo self.now (form.call (name_of name.now) (trees_of (map named arguments.now.items))) (view value.now) result }
+    {
+        let count = arguments.len();
+        match callee_of(self.scope, name, count) {
+            Found::Function(function, own) => {
+                let scope = Scope::Call(&own, &*function, &*arguments, &*self.scope);
+                (&*self).get_body(&function.body, &scope, value)
+            }
+            Found::Closure(body, own) => self.get_body(body, &own, value),
+            Found::Nothing => {
+                let builtin = builtin_named(name.text.as_str(), count);
+                self.get_builtin(builtin, arguments.as_slice(), value)
+            }
+        }
+    }
+
+    // Runs a body in its own scope, with a call depth that is smaller by one.
+    #[cycle(single)]
+    fn get_body(&self, body: &'s Tree, own: &Scope<'s>, value: &Val) -> Result<Val, Stop>
+        ensures { RunsBelow self.now own.now (named body.now) (view value.now) result }
+    {
+        if self.depth == 0 {
+            return Err(Stop::Unknown);
+        }
+        let inside = Context {
+            scope: &*own,
+            depth: self.depth - 1,
+            ..*self
+        };
+        inside.get(&*body, value)
+    }
+
+    /// A name of the language. Its answer replaces a copy of the value.
+    #[cycle(single)]
+    pub(crate) fn get_builtin(
+        &self,
+        builtin: Builtin,
+        arguments: &'s [Tree],
+        value: &Val,
+    ) -> Result<Val, Stop>
+        ensures { RunsBuiltin self.now (meaning_of builtin) (trees_of (map named arguments.now)) (view value.now) result }
+    {
+        let inside = Context {
+            kept: true,
+            ..*self
+        };
+        let mut output = value.copy()?;
+        match inside.change_builtin(builtin, arguments, &mut output) {
+            Ok(()) => Ok(output),
+            Err(stop) => Err(stop),
+        }
+    }
+
+    /// `a(f; g)`: a call of a function, of a filter that was passed, or of a name of the language.
+    #[cycle(single)]
+    #[inline(never)]
     pub(crate) fn change_call(
         &self,
         name: &Name,
-        arguments: &'s [Tree],
+        arguments: &'s Vec<Tree>,
         value: &mut Val,
     ) -> Result<(), Stop>
-        ensures runs { ChangesTo self.now (form.call (name_of name.now) (trees_of (map named arguments.now))) (view value.old) (view value.new) result }
+        ensures runs { ChangesTo self.now (form.call (name_of name.now) (trees_of (map named arguments.now.items))) (view value.old) (view value.new) result }
         ensures keeps { Keeps result (view value.old) (view value.new) }
     {
-        match callee_of(self.scope, name, arguments.len()) {
+        let count = arguments.len();
+        match callee_of(self.scope, name, count) {
             Found::Function(function, own) => {
-                self.change_function(function, &own, arguments, value)
+                let scope = Scope::Call(&own, &*function, &*arguments, &*self.scope);
+                (&*self).change_body(&function.body, &scope, value)
             }
             Found::Closure(body, own) => self.change_body(body, &own, value),
             Found::Nothing => {
-                let builtin = builtin_named(name.text.as_str(), arguments.len());
-                self.change_builtin(builtin, arguments, value)
+                let builtin = builtin_named(name.text.as_str(), count);
+                self.change_builtin(builtin, arguments.as_slice(), value)
             }
         }
     }
@@ -53,44 +117,20 @@ impl<'s> Context<'s> {
     pub(crate) fn change_prelude_call(
         &self,
         name: &Name,
-        arguments: &'s [Tree],
+        arguments: &'s Vec<Tree>,
         value: &mut Val,
     ) -> Result<(), Stop>
-        ensures runs { ChangesTo self.now (form.prelude_call (name_of name.now) (trees_of (map named arguments.now))) (view value.old) (view value.new) result }
+        ensures runs { ChangesTo self.now (form.prelude_call (name_of name.now) (trees_of (map named arguments.now.items))) (view value.old) (view value.new) result }
         ensures keeps { Keeps result (view value.old) (view value.new) }
     {
-        match prelude_of(self.scope, name, arguments.len()) {
+        let count = arguments.len();
+        match prelude_of(self.scope, name, count) {
             Found::Function(function, own) => {
-                self.change_function(function, &own, arguments, value)
+                let scope = Scope::Call(&own, &*function, &*arguments, &*self.scope);
+                (&*self).change_body(&function.body, &scope, value)
             }
             _ => Err(Stop::Unknown),
         }
-    }
-
-    // Runs the body of a function, with a call depth that is smaller by one. The arguments see the caller's bindings.
-    #[cycle(single)]
-    fn change_function(
-        &self,
-        function: &'s Function<Tree>,
-        own: &Scope<'s>,
-        arguments: &'s [Tree],
-        value: &mut Val,
-    ) -> Result<(), Stop>
-        ensures runs { ChangesByFunction self.now function.now own.now (trees_of (map named arguments.now)) (view value.old) (view value.new) result }
-        ensures keeps { Keeps result (view value.old) (view value.new) }
-    {
-        if self.depth == 0 {
-            return Err(Stop::Unknown);
-        }
-        let scope = Scope::Call(&*own, &*function, &*arguments, &*self.scope);
-        let inside = Context {
-            alloc: self.alloc,
-            scope: &scope,
-            depth: self.depth - 1,
-            fuel: self.fuel,
-            kept: self.kept,
-        };
-        inside.change(&function.body, value)
     }
 
     /// Runs a body in its own scope, with a call depth that is smaller by one.
@@ -108,11 +148,9 @@ impl<'s> Context<'s> {
             return Err(Stop::Unknown);
         }
         let inside = Context {
-            alloc: self.alloc,
             scope: &*own,
             depth: self.depth - 1,
-            fuel: self.fuel,
-            kept: self.kept,
+            ..*self
         };
         inside.change(&*body, value)
     }

@@ -60,11 +60,8 @@ impl<'s> Context<'s> {
             return Err(Stop::Unknown);
         }
         let inside = Context {
-            alloc: self.alloc,
-            scope: self.scope,
-            depth: self.depth,
             fuel: self.fuel - 1,
-            kept: self.kept,
+            ..*self
         };
         inside.change_form(tree, value)
     }
@@ -89,9 +86,9 @@ impl<'s> Context<'s> {
                 self.change_binding(source, pattern, body, value)
             }
             Tree::Define(function, rest) => self.change_define(function, rest, value),
-            Tree::Call(name, arguments) => self.change_call(name, arguments.as_slice(), value),
+            Tree::Call(name, arguments) => self.change_call(name, arguments, value),
             Tree::PreludeCall(name, arguments) => {
-                self.change_prelude_call(name, arguments.as_slice(), value)
+                self.change_prelude_call(name, arguments, value)
             }
             Tree::Reduce(source, pattern, start, update) => {
                 self.change_reduce(source, pattern, start, update, value)
@@ -193,11 +190,8 @@ impl<'s> Context<'s> {
     {
         let scope = Scope::Function(&*self.scope, &*function);
         let inside = Context {
-            alloc: self.alloc,
             scope: &scope,
-            depth: self.depth,
-            fuel: self.fuel,
-            kept: self.kept,
+            ..*self
         };
         inside.change(&*rest, value)
     }
@@ -220,11 +214,8 @@ impl<'s> Context<'s> {
                 let found = self.get(source, value)?;
                 let scope = Scope::Value(&*self.scope, &*name, &found);
                 let inside = Context {
-                    alloc: self.alloc,
                     scope: &scope,
-                    depth: self.depth,
-                    fuel: self.fuel,
-                    kept: self.kept,
+                    ..*self
                 };
                 inside.change(&*body, value)
             }

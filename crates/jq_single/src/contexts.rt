@@ -3,7 +3,7 @@ use crate::scopes::Scope;
 use std::alloc::Global;
 
 // How deep filters that are run at once may nest: each level needs stack.
-pub(crate) const FUEL: u32 = 150;
+pub(crate) const FUEL: u8 = 150;
 
 /// The scope of a filter, how deep calls may nest in it, how deep filters that are run at once may nest in it, and
 /// whether the value that it changes is a copy of one that is kept.
@@ -12,6 +12,6 @@ pub(crate) struct Context<'s> {
     pub(crate) alloc: Global,
     pub(crate) scope: &'s Scope<'s>,
     pub(crate) depth: u32,
-    pub(crate) fuel: u32,
+    pub(crate) fuel: u8,
     pub(crate) kept: bool,
 }

@@ -47,7 +47,8 @@ pub(crate) fn callee_of<'s>(scope: &Scope<'s>, name: &Name, count: usize) -> Fou
             }
         }
         Scope::Call(own, function, arguments, caller) => {
-            match argument_of(function.parameters.as_slice(), arguments, name, count) {
+            let parameters = function.parameters.as_slice();
+            match argument_of(parameters, arguments.as_slice(), name, count) {
                 Some(argument) => Found::Closure(argument, **caller),
                 None => callee_of(own, name, count),
             }

@@ -76,11 +76,8 @@ impl<'s> Context<'s> {
         let input = Item::plain(value.copy()?);
         let end = Rest::End(most);
         let tried = Context {
-            alloc: self.alloc,
-            scope: self.scope,
-            depth: self.depth,
             fuel: self.fuel / 2,
-            kept: self.kept,
+            ..*self
         };
         tried.gather(&*source, &input, &end, into)
     }
@@ -204,14 +201,14 @@ impl<'s> Context<'s> {
         let Some(mut state) = take(states) else {
             return Err(Stop::Unknown);
         };
+        let scope = Scope::Value(&*context.scope, &*name, &*value);
         let inside = Context {
-            alloc: self.alloc,
-            scope: context.scope,
+            scope: &scope,
             depth: context.depth,
-            fuel: self.fuel,
             kept: false,
+            ..*self
         };
-        match inside.step(name, update, value, &mut state) {
+        match inside.change_to_next(&*update, &mut state) {
             Ok(()) => Ok(keep(states, state)?),
             Err(stop) => Err(stop),
         }
@@ -231,11 +228,8 @@ impl<'s> Context<'s> {
     {
         let scope = Scope::Value(&*self.scope, &*name, &*single);
         let inside = Context {
-            alloc: self.alloc,
             scope: &scope,
-            depth: self.depth,
-            fuel: self.fuel,
-            kept: self.kept,
+            ..*self
         };
         inside.change_to_next(&*update, state)
     }

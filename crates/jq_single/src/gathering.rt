@@ -7,7 +7,7 @@ ghost use Rattle.jq_tree.specs.Tree.{trees_of};
 ghost use Rattle.jq_tree.specs.Tree as form;
 ghost use Rattle.jq_operations.specs.Language.{meaning_of};
 ghost use Rattle.jq_state.specs.Items.{item_of};
-ghost use Rattle.jq_single.specs.private.Gathering.{GathersBelow, GathersBuiltin, GathersFunction, GathersOf};
+ghost use Rattle.jq_single.specs.private.Gathering.{GathersBelow, GathersBuiltin, GathersOf};
 
 use crate::contexts::Context;
 use crate::finding::{Found, callee_of, prelude_of};
@@ -38,11 +38,8 @@ impl<'s> Context<'s> {
             return Err(Stop::Unknown);
         }
         let inside = Context {
-            alloc: self.alloc,
-            scope: self.scope,
-            depth: self.depth,
             fuel: self.fuel - 1,
-            kept: self.kept,
+            ..*self
         };
         inside.gather_form(tree, item, rest, into)
     }
@@ -60,7 +57,7 @@ impl<'s> Context<'s> {
         ensures { GathersOf self.now (named tree.now) (item_of item.now) rest.now result into.old.items into.new.items }
     {
         match tree {
-            Tree::Identity => self.give(item, rest, into),
+            Tree::Identity => self.give(item.copy()?, rest, into),
             Tree::Iterate(target, guarded) => {
                 self.gather_parts(target, *guarded, item, rest, into)
             }
@@ -87,12 +84,8 @@ impl<'s> Context<'s> {
             Tree::Define(function, later) => {
                 self.gather_define(function, later, item, rest, into)
             }
-            Tree::Call(name, arguments) => {
-                let arguments = arguments.as_slice();
-                self.gather_call(name, arguments, item, rest, into)
-            }
+            Tree::Call(name, arguments) => self.gather_call(name, arguments, item, rest, into),
             Tree::PreludeCall(name, arguments) => {
-                let arguments = arguments.as_slice();
                 self.gather_prelude_call(name, arguments, item, rest, into)
             }
             _ => self.gather_one(tree, item, rest, into),
@@ -117,7 +110,7 @@ impl<'s> Context<'s> {
         match self.get(tree, &item.value) {
             Ok(found) => {
                 let output = Item::plain(found);
-                self.give(&output, rest, into)
+                self.give(output, rest, into)
             }
             Err(stop) => ended(stop),
         }
@@ -242,11 +235,8 @@ impl<'s> Context<'s> {
     {
         let scope = Scope::Function(&*self.scope, &*function);
         let inside = Context {
-            alloc: self.alloc,
             scope: &scope,
-            depth: self.depth,
-            fuel: self.fuel,
-            kept: self.kept,
+            ..*self
         };
         inside.gather(&*later, item, &*rest, into)
     }
@@ -257,21 +247,23 @@ impl<'s> Context<'s> {
     fn gather_call(
         &self,
         name: &Name,
-        arguments: &'s [Tree],
+        arguments: &'s Vec<Tree>,
         item: &Item,
         rest: &Rest<'s>,
         into: &mut Vec<Val>,
     ) -> Result<(), Stop>
-        ensures { GathersOf self.now (form.call (name_of name.now) (trees_of (map named arguments.now))) (item_of item.now) rest.now result into.old.items into.new.items }
+        ensures { GathersOf self.now (form.call (name_of name.now) (trees_of (map named arguments.now.items))) (item_of item.now) rest.now result into.old.items into.new.items }
     {
-        match callee_of(self.scope, name, arguments.len()) {
+        let count = arguments.len();
+        match callee_of(self.scope, name, count) {
             Found::Function(function, own) => {
-                self.gather_function(function, &own, arguments, item, rest, into)
+                let scope = Scope::Call(&own, &*function, &*arguments, &*self.scope);
+                (&*self).gather_body(&function.body, &scope, item, &*rest, into)
             }
             Found::Closure(body, own) => self.gather_body(body, &own, item, rest, into),
             Found::Nothing => {
-                let builtin = builtin_named(name.text.as_str(), arguments.len());
-                self.gather_builtin(builtin, arguments, item, rest, into)
+                let builtin = builtin_named(name.text.as_str(), count);
+                self.gather_builtin(builtin, arguments.as_slice(), item, rest, into)
             }
         }
     }
@@ -282,46 +274,21 @@ impl<'s> Context<'s> {
     fn gather_prelude_call(
         &self,
         name: &Name,
-        arguments: &'s [Tree],
+        arguments: &'s Vec<Tree>,
         item: &Item,
         rest: &Rest<'s>,
         into: &mut Vec<Val>,
     ) -> Result<(), Stop>
-        ensures { GathersOf self.now (form.prelude_call (name_of name.now) (trees_of (map named arguments.now))) (item_of item.now) rest.now result into.old.items into.new.items }
+        ensures { GathersOf self.now (form.prelude_call (name_of name.now) (trees_of (map named arguments.now.items))) (item_of item.now) rest.now result into.old.items into.new.items }
     {
-        match prelude_of(self.scope, name, arguments.len()) {
+        let count = arguments.len();
+        match prelude_of(self.scope, name, count) {
             Found::Function(function, own) => {
-                self.gather_function(function, &own, arguments, item, rest, into)
+                let scope = Scope::Call(&own, &*function, &*arguments, &*self.scope);
+                (&*self).gather_body(&function.body, &scope, item, &*rest, into)
             }
             _ => Err(Stop::Unknown),
         }
-    }
-
-    // Runs the body of a function, with a call depth that is smaller by one. The arguments see the caller's bindings.
-    #[cycle(single)]
-    fn gather_function(
-        &self,
-        function: &'s Function<Tree>,
-        own: &Scope<'s>,
-        arguments: &'s [Tree],
-        item: &Item,
-        rest: &Rest<'s>,
-        into: &mut Vec<Val>,
-    ) -> Result<(), Stop>
-        ensures { GathersFunction self.now function.now own.now (trees_of (map named arguments.now)) (item_of item.now) rest.now result into.old.items into.new.items }
-    {
-        if self.depth == 0 {
-            return Err(Stop::Unknown);
-        }
-        let scope = Scope::Call(&*own, &*function, &*arguments, &*self.scope);
-        let inside = Context {
-            alloc: self.alloc,
-            scope: &scope,
-            depth: self.depth - 1,
-            fuel: self.fuel,
-            kept: self.kept,
-        };
-        inside.gather(&function.body, item, &*rest, into)
     }
 
     // Runs a body in its own scope, with a call depth that is smaller by one.
@@ -340,11 +307,9 @@ impl<'s> Context<'s> {
             return Err(Stop::Unknown);
         }
         let inside = Context {
-            alloc: self.alloc,
             scope: &*own,
             depth: self.depth - 1,
-            fuel: self.fuel,
-            kept: self.kept,
+            ..*self
         };
         inside.gather(&*body, item, &*rest, into)
     }
@@ -368,23 +333,13 @@ impl<'s> Context<'s> {
         match builtin {
             Builtin::Range => self.gather_range(arguments, &item.value, rest, into),
             Builtin::Paths => self.gather_paths(arguments, &item.value, rest, into),
-            _ => {
-                let mut output = item.value.copy()?;
-                let inside = Context {
-                    alloc: self.alloc,
-                    scope: self.scope,
-                    depth: self.depth,
-                    fuel: self.fuel,
-                    kept: true,
-                };
-                match inside.change_builtin(builtin, arguments, &mut output) {
-                    Ok(()) => {
-                        let found = Item::plain(output);
-                        self.give(&found, rest, into)
-                    }
-                    Err(stop) => ended(stop),
+            _ => match self.get_builtin(builtin, arguments, &item.value) {
+                Ok(found) => {
+                    let output = Item::plain(found);
+                    self.give(output, rest, into)
                 }
-            }
+                Err(stop) => ended(stop),
+            },
         }
     }
 }

@@ -23,11 +23,8 @@ impl<'s> Context<'s> {
             return Err(Stop::Unknown);
         }
         let inside = Context {
-            alloc: self.alloc,
-            scope: self.scope,
-            depth: self.depth,
             fuel: self.fuel - 1,
-            kept: self.kept,
+            ..*self
         };
         inside.get_form(tree, value)
     }
@@ -63,10 +60,10 @@ impl<'s> Context<'s> {
             Tree::Reduce(source, pattern, start, update) => {
                 self.reduce(source, pattern, start, update, value)
             }
-            Tree::Choice(_, _, _) => self.get_changed(tree, value),
+            Tree::Choice(condition, holds, fails) => self.choice(condition, holds, fails, value),
+            Tree::Call(name, arguments) => self.get_call(name, arguments, value),
             Tree::BindAs(_, _, _) => self.get_changed(tree, value),
             Tree::Define(_, _) => self.get_changed(tree, value),
-            Tree::Call(_, _) => self.get_changed(tree, value),
             Tree::PreludeCall(_, _) => self.get_changed(tree, value),
             _ => Err(Stop::Unknown),
         }
@@ -79,11 +76,8 @@ impl<'s> Context<'s> {
         ensures { RunsTo self.now (named tree.now) (view value.now) result }
     {
         let inside = Context {
-            alloc: self.alloc,
-            scope: self.scope,
-            depth: self.depth,
-            fuel: self.fuel,
             kept: true,
+            ..*self
         };
         let mut output = value.copy()?;
         match inside.change_form(tree, &mut output) {

@@ -2,7 +2,8 @@
 ghost use Rattle.std.specs.Prelude.{◌≡◌, ◌++◌, ◌∷◌, [], MatchOption, OnOk, ℕ, List, map};
 ghost use Rattle.jv_meaning.specs.Value.{Value};
 ghost use Rattle.jv_data.specs.View.{view};
-ghost use Rattle.jq_meaning.specs.Runs.{Run, before, none, one};
+ghost use Rattle.jq_machine.specs.Operations.{path_item};
+ghost use Rattle.jq_meaning.specs.Runs.{Run, before, none, one, value_in};
 ghost use Rattle.jq_meaning.specs.Runs as runs;
 ghost use Rattle.jq_operations.specs.Outputs.{outputs_of};
 ghost use Rattle.jq_state.specs.Items.{item_of};
@@ -21,38 +22,37 @@ use jv_data::{NoMemory, Val};
 impl<'s> Context<'s> {
     /// Runs the rest of the filter on an output.
     #[cycle(single)]
-    pub(crate) fn give(&self, item: &Item, rest: &Rest<'s>, into: &mut Vec<Val>) -> Result<(), Stop>
-        ensures { GathersRun (one (item_of item.now)) rest.now result into.old.items into.new.items }
+    pub(crate) fn give(&self, item: Item, rest: &Rest<'s>, into: &mut Vec<Val>) -> Result<(), Stop>
+        ensures { GathersRun (one (item_of item)) rest.now result into.old.items into.new.items }
     {
         match rest {
             Rest::End(most) => {
                 if into.len() >= *most {
                     return Err(Stop::Unknown);
                 }
-                Ok(add(into, &item.value)?)
+                Ok(add(into, item)?)
             }
             Rest::Then(tree, context, later) => {
                 let inside = Context {
-                    alloc: self.alloc,
                     scope: context.scope,
                     depth: context.depth,
-                    fuel: self.fuel,
                     kept: true,
+                    ..*self
                 };
-                inside.gather(*tree, item, *later, into)
+                inside.gather(*tree, &item, *later, into)
             }
             Rest::Bind(name, body, context, input, later) => {
                 let scope = Scope::Value(&*context.scope, &**name, &item.value);
                 let inside = Context {
-                    alloc: self.alloc,
                     scope: &scope,
                     depth: context.depth,
-                    fuel: self.fuel,
                     kept: true,
+                    ..*self
                 };
                 inside.gather(&**body, *input, &**later, into)
             }
             Rest::Step(step, later) => self.give_step(*step, item, *later, into),
+            Rest::Path(later) => self.give_path(item, *later, into),
             Rest::Fold(name, update, context) => {
                 self.turn(*name, *update, *context, &item.value, into)
             }
@@ -65,24 +65,38 @@ impl<'s> Context<'s> {
     fn give_step(
         &self,
         step: Step<'s>,
-        item: &Item,
+        item: Item,
         later: &Rest<'s>,
         into: &mut Vec<Val>,
     ) -> Result<(), Stop>
-        ensures { GathersRun (step_run step.entry (item_of item.now)) later.now result into.old.items into.new.items }
+        ensures { GathersRun (step_run step.entry (item_of item)) later.now result into.old.items into.new.items }
     {
         if self.fuel == 0 {
             return Err(Stop::Unknown);
         }
         let inside = Context {
-            alloc: self.alloc,
-            scope: self.scope,
-            depth: self.depth,
             fuel: self.fuel - 1,
-            kept: self.kept,
+            ..*self
         };
         let outputs = take_step(self.alloc, step, item)?;
         inside.give_outputs(outputs, later, into)
+    }
+
+    // Runs the rest of the filter on the path of an item.
+    #[cycle(single)]
+    #[inline(never)]
+    fn give_path(&self, item: Item, later: &Rest<'s>, into: &mut Vec<Val>) -> Result<(), Stop>
+        ensures { GathersRun (path_item (item_of item)) later.now result into.old.items into.new.items }
+    {
+        if self.fuel == 0 {
+            return Err(Stop::Unknown);
+        }
+        let inside = Context {
+            fuel: self.fuel - 1,
+            ..*self
+        };
+        let path = Item::plain(item.into_path(self.alloc)?);
+        inside.give(path, later, into)
     }
 
     // Runs the rest of the filter on the outputs of a step.
@@ -97,7 +111,7 @@ impl<'s> Context<'s> {
     {
         match outputs {
             Outputs::Nothing => Ok(()),
-            Outputs::One(item) => self.give(&item, rest, into),
+            Outputs::One(item) => self.give(item, rest, into),
             Outputs::Several(items) => self.give_several(items, rest, into),
             // A step never makes numbers of a range.
             Outputs::Numbers(_, _, _) => Err(Stop::Unknown),
@@ -118,7 +132,7 @@ impl<'s> Context<'s> {
         ensures { GathersRun (given_of items.items) rest.now result into.old.items into.new.items }
     {
         while let Some(item) = take_last(&mut items) {
-            match self.give(&item, rest, into) {
+            match self.give(item, rest, into) {
                 Ok(()) => {}
                 Err(stop) => return Err(stop),
             }
@@ -127,11 +141,11 @@ impl<'s> Context<'s> {
     }
 }
 
-// Adds a copy of a value to a list.
-fn add(into: &mut Vec<Val>, value: &Val) -> Result<(), NoMemory>
-    ensures { OnOk result (map view into.new.items ≡ map view into.old.items ++ view value.now ∷ []) }
+// Adds the value of an item to a list.
+fn add(into: &mut Vec<Val>, item: Item) -> Result<(), NoMemory>
+    ensures { OnOk result (map view into.new.items ≡ map view into.old.items ++ value_in (item_of item) ∷ []) }
 {
-    into.push(value.copy()?)?;
+    into.push(item.value)?;
     Ok(())
 }
 

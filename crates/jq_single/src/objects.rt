@@ -7,7 +7,7 @@ ghost use Rattle.jq_ast.specs.Named.{named, named_entry};
 ghost use Rattle.jq_tree.specs.Tree.{more_entries};
 ghost use Rattle.jq_tree.specs.Tree as form;
 ghost use Rattle.jq_state.specs.Steps.{named_entries};
-ghost use Rattle.jq_single.specs.private.Making.{RunsEntries, RunsMember};
+ghost use Rattle.jq_single.specs.private.Making.{RunsEntries, RunsKeyed, RunsMember};
 ghost use Rattle.jq_single.specs.private.Parts.{RunsTo};
 
 use crate::contexts::Context;
@@ -65,7 +65,7 @@ impl<'s> Context<'s> {
         }
     }
 
-    // An entry with a computed key, which is run first. It must be a string.
+    // An entry with a computed key, which is run first.
     #[cycle(single)]
     #[inline(never)]
     fn computed(
@@ -79,10 +79,25 @@ impl<'s> Context<'s> {
         ensures { RunsEntries self.now (more_entries (form.computed (named key.now) (named filter.now)) (named_entries later.now)) (members_in made) (view value.now) result }
     {
         let found = self.get(key, value)?;
-        let Val::Text(_) = &found else {
+        self.keyed(found, filter, later, made, value)
+    }
+
+    // The key of an entry is known. It must be a string.
+    #[cycle(single)]
+    fn keyed(
+        &self,
+        key: Val,
+        filter: &'s Tree,
+        later: &'s [Entry<Tree>],
+        made: Object<Val>,
+        value: &Val,
+    ) -> Result<Val, Stop>
+        ensures { RunsKeyed self.now (view key) (named filter.now) (named_entries later.now) (members_in made) (view value.now) result }
+    {
+        let Val::Text(_) = &key else {
             return Err(Stop::Raised(key_error(self.alloc)?));
         };
-        self.member(&found.into_text(), filter, later, made, value)
+        self.member(&key.into_text(), filter, later, made, value)
     }
 
     // An entry whose key is known.
@@ -104,11 +119,8 @@ impl<'s> Context<'s> {
             return Err(Stop::Unknown);
         }
         let inside = Context {
-            alloc: self.alloc,
-            scope: self.scope,
-            depth: self.depth,
             fuel: self.fuel - 1,
-            kept: self.kept,
+            ..*self
         };
         inside.entries(later, longer, value)
     }

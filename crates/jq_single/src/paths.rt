@@ -83,8 +83,7 @@ impl<'s> Context<'s> {
         match arguments {
             [argument] => {
                 let start = start_at(self.alloc, value)?;
-                let step = Step::Path;
-                let next = Rest::Step(step, &*rest);
+                let next = Rest::Path(&*rest);
                 (&*self).gather(&*argument, &start, &next, into)
             }
             _ => Err(Stop::Unknown),
@@ -134,14 +133,12 @@ fn start_at(alloc: Global, value: &Val) -> Result<Item, NoMemory>
 }
 
 /// Where a step leads to.
-pub(crate) fn take_step(alloc: Global, step: Step<'_>, item: &Item) -> Result<Outputs, NoMemory>
-    ensures { IfOk result (λ o. outputs_of o ≡ step_run step.entry (item_of item.now)) }
+pub(crate) fn take_step(alloc: Global, step: Step<'_>, item: Item) -> Result<Outputs, NoMemory>
+    ensures { IfOk result (λ o. outputs_of o ≡ step_run step.entry (item_of item)) }
 {
-    let item = item.copy()?;
     match step {
         Step::Field(key, guarded) => run(alloc, Operation::Field(key, guarded), item),
         Step::At(key, guarded) => run(alloc, Operation::PartAtKey(guarded, key.copy()?), item),
         Step::Parts(guarded) => run(alloc, Operation::EveryPart(guarded), item),
-        Step::Path => run(alloc, Operation::PathValue, item),
     }
 }

@@ -74,7 +74,7 @@ impl<'s> Context<'s> {
         let mut next = Some(first);
         while let Some(value) = take_number(&mut next, end) {
             let item = Item::plain(value);
-            match self.give(&item, rest, into) {
+            match self.give(item, rest, into) {
                 Ok(()) => {}
                 Err(stop) => return Err(stop),
             }

@@ -4,13 +4,12 @@ use jq_ast::{Key, Tree};
 use jq_state::items::Item;
 use jv_data::Val;
 
-/// A step to a part of an item, to all of its parts, or to its path.
+/// A step to a part of an item, or to all of its parts.
 #[derive(Clone, Copy)]
 pub(crate) enum Step<'s> {
     Field(&'s Key, bool),
     At(&'s Val, bool),
     Parts(bool),
-    Path,
 }
 
 /// What is done with each output of the first part.
@@ -24,6 +23,8 @@ pub(crate) enum Rest<'s> {
     Bind(&'s String, &'s Tree, &'s Context<'s>, &'s Item, &'s Rest<'s>),
     /// Takes a step, and runs the rest on where it leads to.
     Step(Step<'s>, &'s Rest<'s>),
+    /// Runs the rest on its path.
+    Path(&'s Rest<'s>),
     /// Binds it to a variable, and runs the update of a fold on the state.
     Fold(&'s String, &'s Tree, &'s Context<'s>),
 }

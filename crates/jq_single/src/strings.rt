@@ -76,11 +76,8 @@ impl<'s> Context<'s> {
             return Err(Stop::Unknown);
         }
         let inside = Context {
-            alloc: self.alloc,
-            scope: self.scope,
-            depth: self.depth,
             fuel: self.fuel - 1,
-            kept: self.kept,
+            ..*self
         };
         let back = inside.pieces(format, later, last, value)?;
         let found = self.get(&piece.tree, value)?;

@@ -6,8 +6,6 @@ use Rattle.jv_data.specs.View.{view}
 use Rattle.jv_data.specs.declared.values.Val.{Val}
 use Rattle.jq_ast.specs.Leaves.{key_of}
 use Rattle.jq_ast.specs.Named.{named}
-use Rattle.jq_ast.specs.declared.tree.Function.{Function}
-use Rattle.jq_ast.specs.declared.tree.Tree as ast
 use Rattle.jq_tree.specs.Tree.{Name, Tree, Trees, whole}
 use Rattle.jq_machine.specs.Operations.{path_item}
 use Rattle.jq_meaning.specs.Builtins.{Builtin, numbers_up_to}
@@ -20,7 +18,7 @@ use Rattle.jq_meaning.specs.Steps.{each_part}
 use Rattle.jq_state.specs.Items.{item_of}
 use Rattle.jq_state.specs.declared.items.Item as items
 use Rattle.jq_single.specs.Single.{Changed, Ends}
-use Rattle.jq_single.specs.private.Parts.{Answers, body_in, builtin_in, function_in, run}
+use Rattle.jq_single.specs.private.Parts.{Answers, body_in, builtin_in, run}
 use Rattle.jq_single.specs.private.Scopes.{scope_env}
 use Rattle.jq_single.specs.declared.contexts.Context.{Context}
 use Rattle.jq_single.specs.declared.rests.Rest.{Rest}
@@ -35,7 +33,6 @@ abbrev pub step_run : Step → Item → Run Item
 step_run (step.Field key guarded) x = on_target guarded (string (key_of key.now)) x
 step_run (step.At key guarded) x = on_target guarded (view key.now) x
 step_run (step.Parts guarded) x = each_part guarded x
-step_run step.Path x = path_item x
 
 -- The rest of the filter, applied to an output.
 abbrev pub rest_run : Run Value → (level : ℕ) → Rest → Item → Run Item
@@ -45,6 +42,7 @@ rest_run inputs level (rest.Bind' n t p y q later) x =
     bind (meaning p.now.depth (named t.now) (bound (value_of (text_of n.now) (value_in x)) (scope_env inputs p.now.scope.now)) level (item_of y.now))
     (rest_run inputs level later)
 rest_run inputs level (rest.Step' s q later) x = bind (step_run s x) (rest_run inputs level later)
+rest_run inputs level (rest.Path' q later) x = bind (path_item x) (rest_run inputs level later)
 rest_run inputs level (rest.Fold n t p) x = one x
 
 -- The last of some values, or v if there is none; a fold keeps its state there.
@@ -69,6 +67,7 @@ made inputs level (rest.End most) xs r = go_on r.ending (one (plain (array (item
 made inputs level (rest.Then' t p q later) xs r = made inputs level later xs r
 made inputs level (rest.Bind' n t p y q later) xs r = made inputs level later xs r
 made inputs level (rest.Step' s q later) xs r = made inputs level later xs r
+made inputs level (rest.Path' q later) xs r = made inputs level later xs r
 made inputs level (rest.Fold n t p) xs r = folded p.now inputs level (text_of n.now) (named t.now) xs r
 
 -- If a run was gathered to its end, a list became another: the first list with this run and any run q after it has the same
@@ -86,14 +85,10 @@ abbrev pub GathersOf : {A : Type 0} → Context → Tree → Item → Rest → R
 GathersOf p t x later result xs ys =
     (inputs : Run Value) (level : ℕ) → Gathers (made inputs level later) result xs ys (bind (run p inputs level t x) (rest_run inputs level later))
 
--- The same for a body in its own scope, with a call depth that is smaller by one; for a function's body; for a name of the language.
+-- The same for a body in its own scope, with a call depth that is smaller by one, and for a name of the language.
 abbrev pub GathersBelow : {A : Type 0} → Context → Scope → Tree → Item → Rest → Result A Stop → (before later : List Val) → Type 0
 GathersBelow p own t x later result xs ys =
     (inputs : Run Value) (level : ℕ) → Gathers (made inputs level later) result xs ys (bind (body_in own p.depth inputs level t x) (rest_run inputs level later))
-
-abbrev pub GathersFunction : {A : Type 0} → Context → Function ast.Tree → Scope → Trees → Item → Rest → Result A Stop → (before later : List Val) → Type 0
-GathersFunction p f own ts x later result xs ys =
-    (inputs : Run Value) (level : ℕ) → Gathers (made inputs level later) result xs ys (bind (function_in p f own inputs level ts x) (rest_run inputs level later))
 
 abbrev pub GathersBuiltin : {A : Type 0} → Context → Builtin → Trees → Item → Rest → Result A Stop → (before later : List Val) → Type 0
 GathersBuiltin p b ts x later result xs ys =

@@ -6,7 +6,7 @@ use Rattle.jv_meaning.specs.Text.{text_of}
 use Rattle.jv_data.specs.declared.containers.texts.SharedText.{SharedText}
 use Rattle.jv_data.specs.declared.values.Val.{Val}
 use Rattle.jq_tree.specs.Tree.{Name, Tree, Entries, Pieces}
-use Rattle.jq_meaning.specs.Continuations.{on_entry}
+use Rattle.jq_meaning.specs.Continuations.{on_entry, with_key}
 use Rattle.jq_meaning.specs.Meaning.{below, entries_with, pieces_with}
 use Rattle.jq_meaning.specs.Runs.{Item, plain, Run, one, bind}
 use Rattle.jq_single.specs.Single.{Ends}
@@ -28,6 +28,11 @@ RunsEntries p es made v result = (inputs : Run Value) (level : ℕ) → Answers 
 abbrev pub RunsMember : Context → (key : List ℕ) → (filter : Tree) → Entries → (made : Members) → Value → Result Val Stop → Type 0
 RunsMember p key t es made v result =
     (inputs : Run Value) (level : ℕ) → Answers result (bind (run p inputs level t (plain v)) (on_entry (entries_in p inputs level es v) made key))
+
+-- The same after an entry whose key was computed.
+abbrev pub RunsKeyed : Context → (key : Value) → (filter : Tree) → Entries → (made : Members) → Value → Result Val Stop → Type 0
+RunsKeyed p key t es made v result =
+    (inputs : Run Value) (level : ℕ) → Answers result (with_key (run p inputs level t (plain v)) (entries_in p inputs level es v) made key)
 
 -- ---- strings
 

@@ -1,16 +1,12 @@
 -- The outputs of the parts of a filter that has at most one output.
-use Rattle.std.specs.Prelude.{◌≡◌, ℕ, List, Result, Ok, Err, map}
+use Rattle.std.specs.Prelude.{◌≡◌, ℕ, List, Result, Ok, Err}
 use Rattle.jq_natives.specs.declared.native.Native.{Native}
-use Rattle.jv_meaning.specs.Text.{text_of}
 use Rattle.jv_meaning.specs.Value.{Value}
 use Rattle.jv_data.specs.View.{view}
 use Rattle.jv_data.specs.declared.values.Val.{Val}
-use Rattle.jq_ast.specs.Named.{named}
-use Rattle.jq_ast.specs.declared.tree.Function.{Function}
-use Rattle.jq_ast.specs.declared.tree.Tree as ast
 use Rattle.jq_tree.specs.Tree.{Tree, Trees}
 use Rattle.jq_meaning.specs.Builtins.{Builtin, builtin_run, each_choice, plain_native}
-use Rattle.jq_meaning.specs.Env.{find_inputs, with_arguments}
+use Rattle.jq_meaning.specs.Env.{find_inputs}
 use Rattle.jq_meaning.specs.Meaning.{arguments_with, below, meaning}
 use Rattle.jq_meaning.specs.Runs.{Item, plain, Run, one, bind}
 use Rattle.jq_single.specs.Single.{Changed, Ends}
@@ -41,16 +37,11 @@ ChangesTo p t v w result = (inputs : Run Value) (level : ℕ) → Changed result
 abbrev pub body_in : Scope → (depth : ℕ) → Run Value → (level : ℕ) → Tree → Item → Run Item
 body_in own depth inputs level t x = below depth t (scope_env inputs own) level x
 
+abbrev pub RunsBelow : Context → Scope → Tree → Value → Result Val Stop → Type 0
+RunsBelow p own t v result = (inputs : Run Value) (level : ℕ) → Answers result (body_in own p.depth inputs level t (plain v))
+
 abbrev pub ChangesBelow : {A : Type 0} → Context → Scope → Tree → (before later : Value) → Result A Stop → Type 0
 ChangesBelow p own t v w result = (inputs : Run Value) (level : ℕ) → Changed result w (body_in own p.depth inputs level t (plain v))
-
--- The same for a function's body, with the arguments in the caller's scope.
-abbrev pub function_in : Context → Function ast.Tree → Scope → Run Value → (level : ℕ) → Trees → Item → Run Item
-function_in p f own inputs level ts x =
-    below p.depth (named f.body) (with_arguments (map text_of f.parameters.items) ts (scope_env inputs p.scope.now) (scope_env inputs own)) level x
-
-abbrev pub ChangesByFunction : {A : Type 0} → Context → Function ast.Tree → Scope → Trees → (before later : Value) → Result A Stop → Type 0
-ChangesByFunction p f own ts v w result = (inputs : Run Value) (level : ℕ) → Changed result w (function_in p f own inputs level ts (plain v))
 
 -- The run of a tree, followed by another filter.
 abbrev pub Follows : Context → Tree → Value → (Item → Run Item) → Result Val Stop → Type 0
@@ -72,6 +63,9 @@ builtin_in p inputs level b ts x =
 
 abbrev pub native_in : Context → Run Value → (level : ℕ) → Native → Trees → Value → Run Item
 native_in p inputs level f ts v = each_choice (arguments_with (below p.depth) ts (scope_env inputs p.scope.now) level (plain v)) (plain_native f v)
+
+abbrev pub RunsBuiltin : Context → Builtin → Trees → Value → Result Val Stop → Type 0
+RunsBuiltin p b ts v result = (inputs : Run Value) (level : ℕ) → Answers result (builtin_in p inputs level b ts (plain v))
 
 -- The answer replaces the value.
 abbrev pub ChangesByBuiltin : {A : Type 0} → Context → Builtin → Trees → (before later : Value) → Result A Stop → Type 0

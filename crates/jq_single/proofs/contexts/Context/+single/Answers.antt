@@ -17,7 +17,7 @@ use Rattle.jq_operations.specs.Language.{meaning_of}
 use Rattle.jq_machine.specs.Operations.{path_item}
 use Rattle.jq_meaning.specs.Builtins.{builtin_named, plain_native, range_of}
 use Rattle.jq_meaning.specs.Builtins as meaning
-use Rattle.jq_meaning.specs.Env.{bound, find_callee, find_value, no_callee, value_of, with_arguments}
+use Rattle.jq_meaning.specs.Env.{bound, find_callee, find_in_prelude, find_value, no_callee, value_of, with_arguments}
 use Rattle.jq_meaning.specs.Steps.{each_part}
 use Rattle.jv_arith.specs.Arith.{add_of}
 use Rattle.jq_natives.specs.PathNatives.{getpath_native_of}
@@ -41,7 +41,7 @@ use Rattle.jq_single.specs.private.UpdateTurns.{PutsFirst, PutsSecond}
 use Rattle.jq_single.specs.private.UpdateTurns as updates
 use Rattle.jq_single.specs.private.Parts.{Answers, builtin_in, run}
 use Rattle.jq_single.specs.Single.{Changed, Ends}
-use Rattle.jq_single.proofs.Binding.{bind-known, ends-bind, ends-after, answers-bind, changed-bind, changed_holds, changed_fails, changed-stops, goes-changed, keeps-stops, leaves_same, stops, untold, text_key, and_goes, and_stops, or_goes, or_stops, truth_of, caught, with_variable, text-bind, text-stops}
+use Rattle.jq_single.proofs.Binding.{bind-known, ends-bind, ends-after, answers-bind, changed-bind, changed_holds, changed_fails, changed-stops, goes-changed, keeps-stops, leaves_same, stops, untold, text_key, and_goes, and_stops, or_goes, or_stops, truth_of, test_holds, test_fails, caught, with_variable, text-bind, text-stops}
 use Rattle.jq_single.specs.declared.rests.Rest.{Rest}
 use Rattle.jq_single.proofs.Gathered.{gathers-none, gathers-then, gathers-fail, gathers_all, gives_first, stops_first, stops-then, gathered_list, ends_gathered, bound_rest, picks_holds, picks_fails}
 use Rattle.jq_single.proofs.Folded.{turned, fold_ends, single_fold}
@@ -67,13 +67,18 @@ get_form-returns-in-Object t c = λ inputs level.
     ap named c.in-Object.is ∙ named-Object c.in-Object.entries ∙ ap (λ es. object (named_entries es)) (sym c.as_slice-in-Object.ensures.value) in
     subst (λ (u : Tree). Answers c.object.result (run c.args.self.now inputs level u (plain (view c.args.value.now)))) (sym form) (c.object.ensures inputs level)
 
+pub get_form-returns-in-Call : goal.get_form-returns-in-Call
+get_form-returns-in-Call t c = λ inputs level.
+    subst (λ (u : Tree). Answers c.get_call.result (run c.args.self.now inputs level u (plain (view c.args.value.now))))
+    (sym (ap named c.in-Call.is ∙ named-Call c.in-Call.name c.in-Call.arguments)) (c.get_call.ensures inputs level)
+
 pub get_changed-returns-in-Ok : goal.get_changed-returns-in-Ok
 get_changed-returns-in-Ok t c = λ inputs level.
-    ap (λ v. run c.args.self.now inputs level (named c.args.tree.now) (plain v)) (sym c.in_ok-output.ensures) ∙ c.in-Ok.ensures.runs inputs level
+    ap (λ (v : Value). run c.args.self.now inputs level (named c.args.tree.now) (plain v)) (sym c.in_ok-output.ensures) ∙ c.in-Ok.ensures.runs inputs level
 
 pub get_changed-returns-in-Err : goal.get_changed-returns-in-Err
 get_changed-returns-in-Err t c = λ inputs level.
-    subst (λ v. Ends c.in-Err.stop (run c.args.self.now inputs level (named c.args.tree.now) (plain v))) c.in_ok-output.ensures (c.in-Err.ensures.runs inputs level)
+    subst (λ (v : Value). Ends c.in-Err.stop (run c.args.self.now inputs level (named c.args.tree.now) (plain v))) c.in_ok-output.ensures (c.in-Err.ensures.runs inputs level)
 
 -- ---- parts
 
@@ -270,6 +275,26 @@ or-returns-in_err-first t c = λ inputs level.
     let go : Tree → Item → Run Item = run c.args.self.now inputs level in
     stops c.from_residual.result c.in_err-first.field-0.0 _ c.from_residual.ensures.1 (ends-bind c.in_err-first.field-0.0 (go (named c.args.left.now) v) (on_disjunct (go (named c.args.right.now)) v) (c.in_err-first.ensures inputs level))
 
+pub choice-returns-then-truth : goal.choice-returns-then-truth
+choice-returns-then-truth t c = λ inputs level.
+    let v = plain (view c.args.value.now) in
+    let go : Tree → Item → Run Item = run c.args.self.now inputs level in
+    test_holds c.get-then-truth.result (go (named c.args.condition.now) v) (view c.in_ok-test.test) (go (named c.args.holds.now)) (go (named c.args.fails.now)) v
+    (c.in_ok-test.ensures inputs level) (sym c.truth.ensures ∙ c.if-truth.true) (c.get-then-truth.ensures inputs level)
+
+pub choice-returns-in_ok-test : goal.choice-returns-in_ok-test
+choice-returns-in_ok-test t c = λ inputs level.
+    let v = plain (view c.args.value.now) in
+    let go : Tree → Item → Run Item = run c.args.self.now inputs level in
+    test_fails c.get-else-truth.result (go (named c.args.condition.now) v) (view c.in_ok-test.test) (go (named c.args.holds.now)) (go (named c.args.fails.now)) v
+    (c.in_ok-test.ensures inputs level) (sym c.truth.ensures ∙ c.if-truth.false) (c.get-else-truth.ensures inputs level)
+
+pub choice-returns-in_err-test : goal.choice-returns-in_err-test
+choice-returns-in_err-test t c = λ inputs level.
+    let v = plain (view c.args.value.now) in
+    let go : Tree → Item → Run Item = run c.args.self.now inputs level in
+    stops c.from_residual.result c.in_err-test.field-0.0 _ c.from_residual.ensures.1 (ends-bind c.in_err-test.field-0.0 (go (named c.args.condition.now) v) (on_test (go (named c.args.holds.now)) (go (named c.args.fails.now)) v) (c.in_err-test.ensures inputs level))
+
 -- ---- `//` and `try`
 
 pub alternative-returns-in-Ok-Some : goal.alternative-returns-in-Ok-Some
@@ -312,54 +337,116 @@ try_catch-returns-in-Err-Nothing t c = λ inputs level.
 
 pub change_form-returns-in-Call-clause-runs : goal.change_form-returns-in-Call-clause-runs
 change_form-returns-in-Call-clause-runs t c = λ inputs level.
-    let form : named c.args.tree.now ≡ call (name_of c.in-Call.name) (trees_of (map named c.as_slice.result.now)) =
-    ap named c.in-Call.is ∙ named-Call c.in-Call.name c.in-Call.arguments ∙ ap (λ ts. call (name_of c.in-Call.name) (trees_of (map named ts))) (sym c.as_slice.ensures.value) in
-    subst (λ (u : Tree). Changed c.change_call.result (view c.change_call.new.value) (run c.args.self.now inputs level u (plain (view c.args.value.now)))) (sym form) (c.change_call.ensures.runs inputs level)
+    subst (λ (u : Tree). Changed c.change_call.result (view c.change_call.new.value) (run c.args.self.now inputs level u (plain (view c.args.value.now))))
+    (sym (ap named c.in-Call.is ∙ named-Call c.in-Call.name c.in-Call.arguments)) (c.change_call.ensures.runs inputs level)
 
 pub change_form-returns-in-PreludeCall-clause-runs : goal.change_form-returns-in-PreludeCall-clause-runs
 change_form-returns-in-PreludeCall-clause-runs t c = λ inputs level.
-    let form : named c.args.tree.now ≡ prelude_call (name_of c.in-PreludeCall.name) (trees_of (map named c.as_slice-in-PreludeCall.result.now)) =
-    ap named c.in-PreludeCall.is ∙ named-PreludeCall c.in-PreludeCall.name c.in-PreludeCall.arguments ∙ ap (λ ts. prelude_call (name_of c.in-PreludeCall.name) (trees_of (map named ts))) (sym c.as_slice-in-PreludeCall.ensures.value) in
-    subst (λ (u : Tree). Changed c.change_prelude_call.result (view c.change_prelude_call.new.value) (run c.args.self.now inputs level u (plain (view c.args.value.now)))) (sym form) (c.change_prelude_call.ensures.runs inputs level)
+    subst (λ (u : Tree). Changed c.change_prelude_call.result (view c.change_prelude_call.new.value) (run c.args.self.now inputs level u (plain (view c.args.value.now))))
+    (sym (ap named c.in-PreludeCall.is ∙ named-PreludeCall c.in-PreludeCall.name c.in-PreludeCall.arguments)) (c.change_prelude_call.ensures.runs inputs level)
 
 pub change_kept-returns-in-Err-clause-keeps : goal.change_kept-returns-in-Err-clause-keeps
 change_kept-returns-in-Err-clause-keeps t c = leaves_same c.in-Err.stop (view c.args.value.now)
 
-pub change_call-returns-in-Closure-clause-runs : goal.change_call-returns-in-Closure-clause-runs
-change_call-returns-in-Closure-clause-runs t c = λ inputs level.
-    subst (Changed c.change_body.result (view c.change_body.new.value))
-    (sym (closure_runs c.args.self.now inputs level (name_of c.args.name.now) c.args.arguments.now (named c.in-Closure.body.now) c.in-Closure.own (plain (view c.args.value.now)) (c.in-Closure.ensures inputs)))
-    (c.change_body.ensures.runs inputs level)
+pub get_call-returns-in-Function : goal.get_call-returns-in-Function
+get_call-returns-in-Function t c = λ inputs level.
+    let p = c.args.self.now in
+    let n = name_of c.args.name.now in
+    let ts = c.args.arguments.now.items in
+    let e = scope_env inputs p.scope.now in
+    let count : c.len-count.result ≡ length ts = c.len-count.ensures in
+    subst (Answers c.get_body.result)
+    (sym (function_runs p inputs level n ts c.in-Function.function.now c.in-Function.own (plain (view c.args.value.now)) (c.in-Function.ensures inputs ∙ ap (λ k. find_callee n k e) count)))
+    (c.get_body.ensures inputs level)
+
+pub get_call-returns-in-Closure : goal.get_call-returns-in-Closure
+get_call-returns-in-Closure t c = λ inputs level.
+    let p = c.args.self.now in
+    let n = name_of c.args.name.now in
+    let ts = c.args.arguments.now.items in
+    let e = scope_env inputs p.scope.now in
+    let count : c.len-count.result ≡ length ts = c.len-count.ensures in
+    subst (Answers c.get_body-in-Closure.result)
+    (sym (closure_runs p inputs level n ts (named c.in-Closure.body.now) c.in-Closure.own (plain (view c.args.value.now)) (c.in-Closure.ensures inputs ∙ ap (λ k. find_callee n k e) count)))
+    (c.get_body-in-Closure.ensures inputs level)
+
+pub get_call-returns-in-Nothing : goal.get_call-returns-in-Nothing
+get_call-returns-in-Nothing t c = λ inputs level.
+    let p = c.args.self.now in
+    let n = name_of c.args.name.now in
+    let ts = c.args.arguments.now.items in
+    let e = scope_env inputs p.scope.now in
+    let count : c.len-count.result ≡ length ts = c.len-count.ensures in
+    let b = meaning_of c.builtin_named-builtin.result in
+    let means : b ≡ builtin_named n (length ts) =
+    c.builtin_named-builtin.ensures ∙ ap (λ bs. builtin_named (chars bs) c.len-count.result) c.as_str.ensures.value ∙ ap (builtin_named n) count in
+    subst (Answers c.get_builtin.result)
+    (ap (λ us. builtin_in p inputs level b (trees_of (map named us)) (plain (view c.args.value.now))) c.as_slice.ensures.value
+    ∙ sym (builtin_runs p inputs level n ts b (plain (view c.args.value.now)) (c.in-Nothing.ensures inputs ∙ ap (λ k. find_callee n k e) count) means))
+    (c.get_builtin.ensures inputs level)
 
 pub change_call-returns-in-Function-clause-runs : goal.change_call-returns-in-Function-clause-runs
 change_call-returns-in-Function-clause-runs t c = λ inputs level.
-    subst (Changed c.change_function.result (view c.change_function.new.value))
-    (sym (function_runs c.args.self.now inputs level (name_of c.args.name.now) c.args.arguments.now c.in-Function.function.now c.in-Function.own (plain (view c.args.value.now)) (c.in-Function.ensures inputs)))
-    (c.change_function.ensures.runs inputs level)
+    let p = c.args.self.now in
+    let n = name_of c.args.name.now in
+    let ts = c.args.arguments.now.items in
+    let e = scope_env inputs p.scope.now in
+    let count : c.len-count.result ≡ length ts = c.len-count.ensures in
+    subst (Changed c.change_body.result (view c.change_body.new.value))
+    (sym (function_runs p inputs level n ts c.in-Function.function.now c.in-Function.own (plain (view c.args.value.now)) (c.in-Function.ensures inputs ∙ ap (λ k. find_callee n k e) count)))
+    (c.change_body.ensures.runs inputs level)
+
+pub change_call-returns-in-Closure-clause-runs : goal.change_call-returns-in-Closure-clause-runs
+change_call-returns-in-Closure-clause-runs t c = λ inputs level.
+    let p = c.args.self.now in
+    let n = name_of c.args.name.now in
+    let ts = c.args.arguments.now.items in
+    let e = scope_env inputs p.scope.now in
+    let count : c.len-count.result ≡ length ts = c.len-count.ensures in
+    subst (Changed c.change_body-in-Closure.result (view c.change_body-in-Closure.new.value))
+    (sym (closure_runs p inputs level n ts (named c.in-Closure.body.now) c.in-Closure.own (plain (view c.args.value.now)) (c.in-Closure.ensures inputs ∙ ap (λ k. find_callee n k e) count)))
+    (c.change_body-in-Closure.ensures.runs inputs level)
 
 pub change_call-returns-in-Nothing-clause-runs : goal.change_call-returns-in-Nothing-clause-runs
 change_call-returns-in-Nothing-clause-runs t c = λ inputs level.
-    let ts = c.args.arguments.now in
-    let means : meaning_of c.builtin_named-builtin.result ≡ builtin_named (name_of c.args.name.now) (length ts) =
-    c.builtin_named-builtin.ensures ∙ ap (λ bs. builtin_named (chars bs) (length ts)) c.as_str.ensures.value in
+    let p = c.args.self.now in
+    let n = name_of c.args.name.now in
+    let ts = c.args.arguments.now.items in
+    let e = scope_env inputs p.scope.now in
+    let count : c.len-count.result ≡ length ts = c.len-count.ensures in
+    let b = meaning_of c.builtin_named-builtin.result in
+    let means : b ≡ builtin_named n (length ts) =
+    c.builtin_named-builtin.ensures ∙ ap (λ bs. builtin_named (chars bs) c.len-count.result) c.as_str.ensures.value ∙ ap (builtin_named n) count in
     subst (Changed c.change_builtin.result (view c.change_builtin.new.value))
-    (sym (builtin_runs c.args.self.now inputs level (name_of c.args.name.now) ts (meaning_of c.builtin_named-builtin.result) (plain (view c.args.value.now)) (c.in-Nothing.ensures inputs) means))
+    (ap (λ us. builtin_in p inputs level b (trees_of (map named us)) (plain (view c.args.value.now))) c.as_slice.ensures.value
+    ∙ sym (builtin_runs p inputs level n ts b (plain (view c.args.value.now)) (c.in-Nothing.ensures inputs ∙ ap (λ k. find_callee n k e) count) means))
     (c.change_builtin.ensures.runs inputs level)
 
 pub change_prelude_call-returns-in-Function-clause-runs : goal.change_prelude_call-returns-in-Function-clause-runs
 change_prelude_call-returns-in-Function-clause-runs t c = λ inputs level.
-    subst (Changed c.change_function.result (view c.change_function.new.value))
-    (sym (prelude_runs c.args.self.now inputs level (name_of c.args.name.now) c.args.arguments.now c.in-Function.function.now c.in-Function.own (plain (view c.args.value.now)) (c.in-Function.ensures inputs)))
-    (c.change_function.ensures.runs inputs level)
-
-pub change_function-returns-clause-runs : goal.change_function-returns-clause-runs
-change_function-returns-clause-runs t c = λ inputs level.
     let p = c.args.self.now in
-    let f = c.args.function.now in
-    let e = with_arguments (map text_of f.parameters.items) (trees_of (map named c.args.arguments.now)) (scope_env inputs p.scope.now) (scope_env inputs c.args.own.now) in
-    subst (Changed c.change.result (view c.change.new.value))
-    (body_runs e p.depth (p.depth - 1) level (named f.body) (plain (view c.args.value.now)) (omega arith))
-    (c.change.ensures.runs inputs level)
+    let n = name_of c.args.name.now in
+    let ts = c.args.arguments.now.items in
+    let e = scope_env inputs p.scope.now in
+    let count : c.len-count.result ≡ length ts = c.len-count.ensures in
+    subst (Changed c.change_body.result (view c.change_body.new.value))
+    (sym (prelude_runs p inputs level n ts c.in-Function.function.now c.in-Function.own (plain (view c.args.value.now)) (c.in-Function.ensures inputs ∙ ap (λ k. find_in_prelude n k e) count)))
+    (c.change_body.ensures.runs inputs level)
+
+pub get_body-returns : goal.get_body-returns
+get_body-returns t c = λ inputs level.
+    let depth = c.args.self.now.depth in
+    subst (Answers c.get.result)
+    (body_runs (scope_env inputs c.args.own.now) depth (depth - 1) level (named c.args.body.now) (plain (view c.args.value.now)) (omega arith))
+    (c.get.ensures inputs level)
+
+pub get_builtin-returns-in-Ok : goal.get_builtin-returns-in-Ok
+get_builtin-returns-in-Ok t c = λ inputs level.
+    ap (λ (v : Value). builtin_in c.args.self.now inputs level (meaning_of c.args.builtin) (trees_of (map named c.args.arguments.now)) (plain v)) (sym c.in_ok-output.ensures) ∙ c.in-Ok.ensures.runs inputs level
+
+pub get_builtin-returns-in-Err : goal.get_builtin-returns-in-Err
+get_builtin-returns-in-Err t c = λ inputs level.
+    subst (λ (v : Value). Ends c.in-Err.stop (builtin_in c.args.self.now inputs level (meaning_of c.args.builtin) (trees_of (map named c.args.arguments.now)) (plain v))) c.in_ok-output.ensures (c.in-Err.ensures.runs inputs level)
 
 pub change_body-returns-clause-runs : goal.change_body-returns-clause-runs
 change_body-returns-clause-runs t c = λ inputs level.
@@ -528,7 +615,7 @@ pub gather_one-returns-in-Ok : goal.gather_one-returns-in-Ok
 gather_one-returns-in-Ok t c = λ inputs level.
     let go : Item → Run Item = run c.args.self.now inputs level (named c.args.tree.now) in
     subst (λ r. Gathers (made inputs level c.args.rest.now) c.give.result c.args.into.now.items c.give.new.into.items (bind r (rest_run inputs level c.args.rest.now)))
-    (c.plain-output.ensures ∙ sym (ap go (absent c.args.item.now (sym c.is_present.ensures ∙ c.if-is_present.false)) ∙ c.in-Ok.ensures inputs level))
+    (ap one c.plain-output.ensures ∙ sym (ap go (absent c.args.item.now (sym c.is_present.ensures ∙ c.if-is_present.false)) ∙ c.in-Ok.ensures inputs level))
     (c.give.ensures inputs level)
 
 pub gather_one-returns-in-Err : goal.gather_one-returns-in-Err
@@ -538,7 +625,7 @@ gather_one-returns-in-Err t c = λ inputs level.
     let later : Item → Run Item = rest_run inputs level c.args.rest.now in
     c.ended.ensures inputs level c.args.rest.now (bind r later) c.args.into.now.items
     (ends-bind c.in-Err.stop r later
-    (subst (λ x. Ends c.in-Err.stop (go x)) (sym (absent c.args.item.now (sym c.is_present.ensures ∙ c.if-is_present.false))) (c.in-Err.ensures inputs level)))
+    (subst (λ (x : Item). Ends c.in-Err.stop (go x)) (sym (absent c.args.item.now (sym c.is_present.ensures ∙ c.if-is_present.false))) (c.in-Err.ensures inputs level)))
 
 pub gather_pipe-returns : goal.gather_pipe-returns
 gather_pipe-returns t c = λ inputs level.
@@ -618,39 +705,51 @@ gather_binding-returns-in_ok-input-in-Whole t c = λ inputs level.
 
 pub gather_call-returns-in-Function : goal.gather_call-returns-in-Function
 gather_call-returns-in-Function t c = λ inputs level.
-    subst (λ r. Gathers (made inputs level c.args.rest.now) c.gather_function.result c.args.into.now.items c.gather_function.new.into.items (bind r (rest_run inputs level c.args.rest.now)))
-    (sym (function_runs c.args.self.now inputs level (name_of c.args.name.now) c.args.arguments.now c.in-Function.function.now c.in-Function.own (item_of c.args.item.now) (c.in-Function.ensures inputs)))
-    (c.gather_function.ensures inputs level)
-
-pub gather_prelude_call-returns-in-Function : goal.gather_prelude_call-returns-in-Function
-gather_prelude_call-returns-in-Function t c = λ inputs level.
-    subst (λ r. Gathers (made inputs level c.args.rest.now) c.gather_function.result c.args.into.now.items c.gather_function.new.into.items (bind r (rest_run inputs level c.args.rest.now)))
-    (sym (prelude_runs c.args.self.now inputs level (name_of c.args.name.now) c.args.arguments.now c.in-Function.function.now c.in-Function.own (item_of c.args.item.now) (c.in-Function.ensures inputs)))
-    (c.gather_function.ensures inputs level)
+    let p = c.args.self.now in
+    let n = name_of c.args.name.now in
+    let ts = c.args.arguments.now.items in
+    let e = scope_env inputs p.scope.now in
+    let count : c.len-count.result ≡ length ts = c.len-count.ensures in
+    subst (λ r. Gathers (made inputs level c.args.rest.now) c.gather_body.result c.args.into.now.items c.gather_body.new.into.items (bind r (rest_run inputs level c.args.rest.now)))
+    (sym (function_runs p inputs level n ts c.in-Function.function.now c.in-Function.own (item_of c.args.item.now) (c.in-Function.ensures inputs ∙ ap (λ k. find_callee n k e) count)))
+    (c.gather_body.ensures inputs level)
 
 pub gather_call-returns-in-Closure : goal.gather_call-returns-in-Closure
 gather_call-returns-in-Closure t c = λ inputs level.
-    subst (λ r. Gathers (made inputs level c.args.rest.now) c.gather_body.result c.args.into.now.items c.gather_body.new.into.items (bind r (rest_run inputs level c.args.rest.now)))
-    (sym (closure_runs c.args.self.now inputs level (name_of c.args.name.now) c.args.arguments.now (named c.in-Closure.body.now) c.in-Closure.own (item_of c.args.item.now) (c.in-Closure.ensures inputs)))
-    (c.gather_body.ensures inputs level)
+    let p = c.args.self.now in
+    let n = name_of c.args.name.now in
+    let ts = c.args.arguments.now.items in
+    let e = scope_env inputs p.scope.now in
+    let count : c.len-count.result ≡ length ts = c.len-count.ensures in
+    subst (λ r. Gathers (made inputs level c.args.rest.now) c.gather_body-in-Closure.result c.args.into.now.items c.gather_body-in-Closure.new.into.items (bind r (rest_run inputs level c.args.rest.now)))
+    (sym (closure_runs p inputs level n ts (named c.in-Closure.body.now) c.in-Closure.own (item_of c.args.item.now) (c.in-Closure.ensures inputs ∙ ap (λ k. find_callee n k e) count)))
+    (c.gather_body-in-Closure.ensures inputs level)
 
 pub gather_call-returns-in-Nothing : goal.gather_call-returns-in-Nothing
 gather_call-returns-in-Nothing t c = λ inputs level.
-    let ts = c.args.arguments.now in
-    let means : meaning_of c.builtin_named-builtin.result ≡ builtin_named (name_of c.args.name.now) (length ts) =
-    c.builtin_named-builtin.ensures ∙ ap (λ bs. builtin_named (chars bs) (length ts)) c.as_str.ensures.value in
+    let p = c.args.self.now in
+    let n = name_of c.args.name.now in
+    let ts = c.args.arguments.now.items in
+    let e = scope_env inputs p.scope.now in
+    let count : c.len-count.result ≡ length ts = c.len-count.ensures in
+    let b = meaning_of c.builtin_named-builtin.result in
+    let means : b ≡ builtin_named n (length ts) =
+    c.builtin_named-builtin.ensures ∙ ap (λ bs. builtin_named (chars bs) c.len-count.result) c.as_str.ensures.value ∙ ap (builtin_named n) count in
     subst (λ r. Gathers (made inputs level c.args.rest.now) c.gather_builtin.result c.args.into.now.items c.gather_builtin.new.into.items (bind r (rest_run inputs level c.args.rest.now)))
-    (sym (builtin_runs c.args.self.now inputs level (name_of c.args.name.now) ts (meaning_of c.builtin_named-builtin.result) (item_of c.args.item.now) (c.in-Nothing.ensures inputs) means))
+    (ap (λ us. builtin_in p inputs level b (trees_of (map named us)) (item_of c.args.item.now)) c.as_slice.ensures.value
+    ∙ sym (builtin_runs p inputs level n ts b (item_of c.args.item.now) (c.in-Nothing.ensures inputs ∙ ap (λ k. find_callee n k e) count) means))
     (c.gather_builtin.ensures inputs level)
 
-pub gather_function-returns : goal.gather_function-returns
-gather_function-returns t c = λ inputs level.
+pub gather_prelude_call-returns-in-Function : goal.gather_prelude_call-returns-in-Function
+gather_prelude_call-returns-in-Function t c = λ inputs level.
     let p = c.args.self.now in
-    let f = c.args.function.now in
-    let e = with_arguments (map text_of f.parameters.items) (trees_of (map named c.args.arguments.now)) (scope_env inputs p.scope.now) (scope_env inputs c.args.own.now) in
-    subst (λ r. Gathers (made inputs level c.args.rest.now) c.gather.result c.args.into.now.items c.gather.new.into.items (bind r (rest_run inputs level c.args.rest.now)))
-    (body_runs e p.depth (p.depth - 1) level (named f.body) (item_of c.args.item.now) (omega arith))
-    (c.gather.ensures inputs level)
+    let n = name_of c.args.name.now in
+    let ts = c.args.arguments.now.items in
+    let e = scope_env inputs p.scope.now in
+    let count : c.len-count.result ≡ length ts = c.len-count.ensures in
+    subst (λ r. Gathers (made inputs level c.args.rest.now) c.gather_body.result c.args.into.now.items c.gather_body.new.into.items (bind r (rest_run inputs level c.args.rest.now)))
+    (sym (prelude_runs p inputs level n ts c.in-Function.function.now c.in-Function.own (item_of c.args.item.now) (c.in-Function.ensures inputs ∙ ap (λ k. find_in_prelude n k e) count)))
+    (c.gather_body.ensures inputs level)
 
 pub gather_body-returns : goal.gather_body-returns
 gather_body-returns t c = λ inputs level.
@@ -679,7 +778,7 @@ pub gather_builtin-returns-in-Ok : goal.gather_builtin-returns-in-Ok
 gather_builtin-returns-in-Ok t c = λ inputs level.
     let go : Item → Run Item = builtin_in c.args.self.now inputs level (meaning_of c.args.builtin) (trees_of (map named c.args.arguments.now)) in
     subst (λ r. Gathers (made inputs level c.args.rest.now) c.give.result c.args.into.now.items c.give.new.into.items (bind r (rest_run inputs level c.args.rest.now)))
-    (ap one c.plain-found.ensures ∙ sym (ap go (absent c.args.item.now (sym c.is_present.ensures ∙ c.if-is_present.false) ∙ ap plain (sym c.in_ok-output.ensures)) ∙ c.in-Ok.ensures.runs inputs level))
+    (ap one c.plain-output.ensures ∙ sym (ap go (absent c.args.item.now (sym c.is_present.ensures ∙ c.if-is_present.false)) ∙ c.in-Ok.ensures inputs level))
     (c.give.ensures inputs level)
 
 pub gather_builtin-returns-in-Err : goal.gather_builtin-returns-in-Err
@@ -689,7 +788,7 @@ gather_builtin-returns-in-Err t c = λ inputs level.
     let later : Item → Run Item = rest_run inputs level c.args.rest.now in
     c.ended.ensures inputs level c.args.rest.now (bind r later) c.args.into.now.items
     (ends-bind c.in-Err.stop r later
-    (subst (λ x. Ends c.in-Err.stop (go x)) (ap plain c.in_ok-output.ensures ∙ sym (absent c.args.item.now (sym c.is_present.ensures ∙ c.if-is_present.false))) (c.in-Err.ensures.runs inputs level)))
+    (subst (λ (x : Item). Ends c.in-Err.stop (go x)) (sym (absent c.args.item.now (sym c.is_present.ensures ∙ c.if-is_present.false))) (c.in-Err.ensures inputs level)))
 
 pub gather_paths-returns-in_ok-start-in-len1 : goal.gather_paths-returns-in_ok-start-in-len1
 gather_paths-returns-in_ok-start-in-len1 t c = λ inputs level.
@@ -737,7 +836,7 @@ give_several-loop-item-preserved t c = λ inputs level a ys h.
 
 pub give-returns-in-Fold : goal.give-returns-in-Fold
 give-returns-in-Fold t c = λ inputs level.
-    let x = item_of c.args.item.now in
+    let x = item_of c.args.item in
     subst (λ (l : Rest). Gathers (made inputs level l) c.turn.result c.args.into.now.items c.turn.new.states.items (bind (one x) (rest_run inputs level l))) (sym c.in-Fold.is) (c.turn.ensures inputs level)
 
 pub gather_range-returns-in-Ok-Ok : goal.gather_range-returns-in-Ok-Ok
@@ -836,6 +935,34 @@ first_piece-returns-in_ok-text_in_format t c = λ inputs level.
     (text-bind c.inserted.result filter (plain (view c.in_ok-found.found)) (on_inserted f front back) (c.in_ok-found.ensures inputs level)
     (c.inserted.ensures front back expected (subst (λ (bs : List ℕ). Inserts (chars bs) expected back made) c.as_str-front.ensures.value (subst (λ (bs : List ℕ). Inserts (chars c.as_str-front.result.now) expected (chars bs) made) c.as_str-in_ok-found.ensures c.in_ok-text_in_format.ensures))))
 
+pub first_piece-returns-in_err-back : goal.first_piece-returns-in_err-back
+first_piece-returns-in_err-back t c = λ inputs level.
+    let p = c.args.self.now in
+    let f = name_of c.args.format.now in
+    let x = plain (view c.args.value.now) in
+    let piece = c.args.piece.now in
+    let later = pieces_with (below p.depth) (named_pieces c.args.later.now c.args.last.now) f (scope_env inputs p.scope.now) level x in
+    let filter = run p inputs level (named piece.tree) x in
+    let front = text_of piece.before in
+    text-stops c.from_residual.result c.in_err-back.field-0.0 _ c.from_residual.ensures.1
+    (ends-bind c.in_err-back.field-0.0 later (on_back f front filter) (c.in_err-back.ensures inputs level))
+
+pub first_piece-returns-in_err-found : goal.first_piece-returns-in_err-found
+unfolding on_back
+first_piece-returns-in_err-found t c = λ inputs level.
+    let p = c.args.self.now in
+    let f = name_of c.args.format.now in
+    let x = plain (view c.args.value.now) in
+    let piece = c.args.piece.now in
+    let later = pieces_with (below p.depth) (named_pieces c.args.later.now c.args.last.now) f (scope_env inputs p.scope.now) level x in
+    let filter = run p inputs level (named piece.tree) x in
+    let front = text_of piece.before in
+    let s = c.in_err-found.field-0.0 in
+    let back = text_of (string_in c.in_ok-back.back) in
+    text-stops c.from_residual-in_err-found.result s _ c.from_residual-in_err-found.ensures.1
+    (ends-after s later back (on_back f front filter) (c.in_ok-back.ensures inputs level)
+    (ends-bind s filter (on_inserted f front back) (c.in_err-found.ensures inputs level)))
+
 -- ---- objects
 
 pub entry-returns-in_ok-key-in-Named : goal.entry-returns-in_ok-key-in-Named
@@ -855,8 +982,11 @@ computed-returns-in_ok-found t c = λ inputs level.
     let v = view c.args.value.now in
     let later : Members → Run Item = entries_in p inputs level (named_entries c.args.later.now) v in
     let filter = run p inputs level (named c.args.filter.now) (plain v) in
-    answers-bind c.member.result (run p inputs level (named c.args.key.now) (plain v)) (plain (view c.in_ok-found.found)) (on_entry_key filter later (members_in c.args.made)) (c.in_ok-found.ensures inputs level)
-    (rw c.into_text.ensures (c.member.ensures inputs level))
+    answers-bind c.keyed.result (run p inputs level (named c.args.key.now) (plain v)) (plain (view c.in_ok-found.found)) (on_entry_key filter later (members_in c.args.made))
+    (c.in_ok-found.ensures inputs level) (c.keyed.ensures inputs level)
+
+pub keyed-returns : goal.keyed-returns
+keyed-returns t c = λ inputs level. rw c.into_text.ensures (c.member.ensures inputs level)
 
 pub computed-returns-in_err-found : goal.computed-returns-in_err-found
 computed-returns-in_err-found t c = λ inputs level.
@@ -968,7 +1098,7 @@ reduce-returns-in_err-state-in-Whole t c = λ inputs level.
     let x = plain (view c.args.value.now) in
     let sources = bind (run p inputs level (named c.args.source.now) x) (on_source (bindings_with (below p.depth) (named_as_pattern c.args.pattern.now) level) (scope_env inputs p.scope.now)) in
     let s = c.in_err-state-in-Whole.field-0.0 in
-    stops c.from_residual-in_err-state-in-Whole.result s _ c.from_residual-in_err-state-in-Whole.ensures.1
+    stops c.from_residual.result s _ c.from_residual.ensures.1
     (ends-bind s (run p inputs level (named c.args.start.now) x) (reduced (on_state (meaning p.depth (named c.args.update.now)) level) sources.items sources.ending) (c.in_err-state-in-Whole.ensures inputs level))
 
 pub turn-returns-in_ok-keep-in-Ok : goal.turn-returns-in_ok-keep-in-Ok

@@ -48,6 +48,18 @@ decreases-or l = 16 * l.self.now.fuel + 4
 abbrev pub decreases-get_truth : goal.decreases-get_truth
 decreases-get_truth l = 16 * l.self.now.fuel + 3
 
+abbrev pub decreases-choice : goal.decreases-choice
+decreases-choice l = 16 * l.self.now.fuel + 3
+
+abbrev pub decreases-get_call : goal.decreases-get_call
+decreases-get_call l = 16 * l.self.now.fuel + 12
+
+abbrev pub decreases-get_body : goal.decreases-get_body
+decreases-get_body l = 16 * l.self.now.fuel + 5
+
+abbrev pub decreases-get_builtin : goal.decreases-get_builtin
+decreases-get_builtin l = 16 * l.self.now.fuel + 11
+
 abbrev pub decreases-alternative : goal.decreases-alternative
 decreases-alternative l = 16 * l.self.now.fuel + 3
 
@@ -66,8 +78,11 @@ decreases-entry l = 16 * l.self.now.fuel + 9
 abbrev pub decreases-computed : goal.decreases-computed
 decreases-computed l = 16 * l.self.now.fuel + 8
 
+abbrev pub decreases-keyed : goal.decreases-keyed
+decreases-keyed l = 16 * l.self.now.fuel + 7
+
 abbrev pub decreases-member : goal.decreases-member
-decreases-member l = 16 * l.self.now.fuel + 7
+decreases-member l = 16 * l.self.now.fuel + 6
 
 abbrev pub decreases-text : goal.decreases-text
 decreases-text l = 16 * l.self.now.fuel + 12
@@ -122,9 +137,6 @@ decreases-change_call l = 16 * l.self.now.fuel + 11
 
 abbrev pub decreases-change_prelude_call : goal.decreases-change_prelude_call
 decreases-change_prelude_call l = 16 * l.self.now.fuel + 11
-
-abbrev pub decreases-change_function : goal.decreases-change_function
-decreases-change_function l = 16 * l.self.now.fuel + 5
 
 abbrev pub decreases-change_body : goal.decreases-change_body
 decreases-change_body l = 16 * l.self.now.fuel + 5
@@ -208,19 +220,16 @@ abbrev pub decreases-gather_define : goal.decreases-gather_define
 decreases-gather_define l = 16 * l.self.now.fuel + 5
 
 abbrev pub decreases-gather_call : goal.decreases-gather_call
-decreases-gather_call l = 16 * l.self.now.fuel + 12
+decreases-gather_call l = 16 * l.self.now.fuel + 13
 
 abbrev pub decreases-gather_prelude_call : goal.decreases-gather_prelude_call
-decreases-gather_prelude_call l = 16 * l.self.now.fuel + 12
-
-abbrev pub decreases-gather_function : goal.decreases-gather_function
-decreases-gather_function l = 16 * l.self.now.fuel + 5
+decreases-gather_prelude_call l = 16 * l.self.now.fuel + 13
 
 abbrev pub decreases-gather_body : goal.decreases-gather_body
 decreases-gather_body l = 16 * l.self.now.fuel + 5
 
 abbrev pub decreases-gather_builtin : goal.decreases-gather_builtin
-decreases-gather_builtin l = 16 * l.self.now.fuel + 11
+decreases-gather_builtin l = 16 * l.self.now.fuel + 12
 
 abbrev pub decreases-gather_range : goal.decreases-gather_range
 decreases-gather_range l = 16 * l.self.now.fuel + 8
@@ -233,6 +242,9 @@ decreases-give l = 16 * l.self.now.fuel + 4
 
 abbrev pub decreases-give_step : goal.decreases-give_step
 decreases-give_step l = 16 * l.self.now.fuel + 3
+
+abbrev pub decreases-give_path : goal.decreases-give_path
+decreases-give_path l = 16 * l.self.now.fuel + 3
 
 abbrev pub decreases-give_outputs : goal.decreases-give_outputs
 decreases-give_outputs l = 16 * l.self.now.fuel + 7
