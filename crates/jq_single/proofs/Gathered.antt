@@ -41,7 +41,9 @@ pub made-fail : (inputs : Run Value) (level : ℕ) (later : Rest) (xs : List Val
 made-fail inputs level (rest.End most) xs v = refl
 made-fail inputs level (rest.Then' t p q later) xs v = made-fail inputs level later xs v
 made-fail inputs level (rest.Bind' n t p w q later) xs v = made-fail inputs level later xs v
-made-fail inputs level (rest.Step' t q later) xs v = made-fail inputs level later xs v
+made-fail inputs level (rest.Field' key guarded q later) xs v = made-fail inputs level later xs v
+made-fail inputs level (rest.At' key guarded q later) xs v = made-fail inputs level later xs v
+made-fail inputs level (rest.Parts' guarded q later) xs v = made-fail inputs level later xs v
 made-fail inputs level (rest.Path' q later) xs v = made-fail inputs level later xs v
 made-fail inputs level (rest.Fold n t p) xs v = refl
 

@@ -12,7 +12,7 @@ ghost use Rattle.jq_single.specs.private.Gathering.{GathersBelow, GathersBuiltin
 use crate::contexts::Context;
 use crate::finding::{Found, callee_of, prelude_of};
 use crate::giving::ended;
-use crate::rests::{Rest, Step};
+use crate::rests::Rest;
 use crate::scopes::Scope;
 use crate::stops::Stop;
 use jq_ast::{Function, Name, Pattern, Tree};
@@ -129,8 +129,7 @@ impl<'s> Context<'s> {
     ) -> Result<(), Stop>
         ensures { GathersOf self.now (form.iterate (named target.now) guarded) (item_of item.now) rest.now result into.old.items into.new.items }
     {
-        let step = Step::Parts(guarded);
-        let next = Rest::Step(step, &*rest);
+        let next = Rest::Parts(guarded, &*rest);
         (&*self).gather(&*target, item, &next, into)
     }
 

@@ -2,21 +2,22 @@
 ghost use Rattle.std.specs.Prelude.{◌≡◌, ◌++◌, ◌∷◌, [], MatchOption, OnOk, ℕ, List, map};
 ghost use Rattle.jv_meaning.specs.Value.{Value};
 ghost use Rattle.jv_data.specs.View.{view};
-ghost use Rattle.jq_machine.specs.Operations.{path_item};
+ghost use Rattle.jq_machine.specs.Operations.{path_item, result_of};
+ghost use Rattle.jq_state.specs.Steps.{operation_of};
 ghost use Rattle.jq_meaning.specs.Runs.{Run, before, none, one, value_in};
 ghost use Rattle.jq_meaning.specs.Runs as runs;
 ghost use Rattle.jq_operations.specs.Outputs.{outputs_of};
 ghost use Rattle.jq_state.specs.Items.{item_of};
 ghost use Rattle.jq_single.specs.Single.{Ends};
-ghost use Rattle.jq_single.specs.private.Gathering.{Gathers, GathersRun, given_of, made, step_run};
+ghost use Rattle.jq_single.specs.private.Gathering.{Gathers, GathersRun, given_of, made};
 
 use crate::contexts::Context;
-use crate::paths::take_step;
-use crate::rests::{Rest, Step};
+use crate::rests::Rest;
 use crate::scopes::Scope;
 use crate::stops::Stop;
-use jq_operations::Outputs;
+use jq_operations::{Outputs, run};
 use jq_state::items::Item;
+use jq_state::steps::Operation;
 use jv_data::{NoMemory, Val};
 
 impl<'s> Context<'s> {
@@ -51,7 +52,16 @@ impl<'s> Context<'s> {
                 };
                 inside.gather(&**body, *input, &**later, into)
             }
-            Rest::Step(step, later) => self.give_step(*step, item, *later, into),
+            Rest::Field(key, guarded, later) => {
+                self.give_step(Operation::Field(*key, *guarded), item, *later, into)
+            }
+            Rest::At(key, guarded, later) => {
+                let key = key.copy()?;
+                self.give_step(Operation::PartAtKey(*guarded, key), item, *later, into)
+            }
+            Rest::Parts(guarded, later) => {
+                self.give_step(Operation::EveryPart(*guarded), item, *later, into)
+            }
             Rest::Path(later) => self.give_path(item, *later, into),
             Rest::Fold(name, update, context) => {
                 self.turn(*name, *update, *context, &item.value, into)
@@ -64,12 +74,12 @@ impl<'s> Context<'s> {
     #[inline(never)]
     fn give_step(
         &self,
-        step: Step<'s>,
+        operation: Operation<'_>,
         item: Item,
         later: &Rest<'s>,
         into: &mut Vec<Val>,
     ) -> Result<(), Stop>
-        ensures { GathersRun (step_run step.entry (item_of item)) later.now result into.old.items into.new.items }
+        ensures { GathersRun (result_of (operation_of operation.entry) (item_of item)) later.now result into.old.items into.new.items }
     {
         if self.fuel == 0 {
             return Err(Stop::Unknown);
@@ -78,7 +88,7 @@ impl<'s> Context<'s> {
             fuel: self.fuel - 1,
             ..*self
         };
-        let outputs = take_step(self.alloc, step, item)?;
+        let outputs = run(self.alloc, operation, item)?;
         inside.give_outputs(outputs, later, into)
     }
 

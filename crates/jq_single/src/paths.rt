@@ -7,20 +7,17 @@ ghost use Rattle.jq_tree.specs.Tree.{trees_of};
 ghost use Rattle.jq_tree.specs.Tree as form;
 ghost use Rattle.jq_meaning.specs.Builtins as meaning;
 ghost use Rattle.jq_meaning.specs.Runs.{located, plain};
-ghost use Rattle.jq_operations.specs.Outputs.{outputs_of};
 ghost use Rattle.jq_state.specs.Items.{item_of};
 ghost use Rattle.jq_single.specs.Single.{Keeps};
-ghost use Rattle.jq_single.specs.private.Gathering.{GathersBuiltin, GathersOf, step_run};
+ghost use Rattle.jq_single.specs.private.Gathering.{GathersBuiltin, GathersOf};
 ghost use Rattle.jq_single.specs.private.Parts.{ChangesByBuiltin, IsUntold};
 
 use crate::contexts::Context;
 use crate::giving::ended;
-use crate::rests::{Rest, Step};
+use crate::rests::Rest;
 use crate::stops::{Stop, untold};
 use jq_ast::{Key, Tree};
-use jq_operations::{Outputs, run};
 use jq_state::items::{Item, Path};
-use jq_state::steps::Operation;
 use jv_data::{NoMemory, Val};
 use std::alloc::Global;
 
@@ -39,8 +36,7 @@ impl<'s> Context<'s> {
     ) -> Result<(), Stop>
         ensures { GathersOf self.now (form.field (named target.now) (key_of key.now) guarded) (item_of item.now) rest.now result into.old.items into.new.items }
     {
-        let step = Step::Field(&*key, guarded);
-        let next = Rest::Step(step, &*rest);
+        let next = Rest::Field(&*key, guarded, &*rest);
         (&*self).gather(&*target, item, &next, into)
     }
 
@@ -60,8 +56,7 @@ impl<'s> Context<'s> {
     {
         match self.get(key, &item.value) {
             Ok(found) => {
-                let step = Step::At(&found, guarded);
-                let next = Rest::Step(step, &*rest);
+                let next = Rest::At(&found, guarded, &*rest);
                 (&*self).gather(&*target, item, &next, into)
             }
             Err(stop) => ended(stop),
@@ -130,15 +125,4 @@ fn start_at(alloc: Global, value: &Val) -> Result<Item, NoMemory>
     let value = value.copy()?;
     let path = Path::empty(alloc)?;
     Ok(Item { value, path })
-}
-
-/// Where a step leads to.
-pub(crate) fn take_step(alloc: Global, step: Step<'_>, item: Item) -> Result<Outputs, NoMemory>
-    ensures { IfOk result (λ o. outputs_of o ≡ step_run step.entry (item_of item)) }
-{
-    match step {
-        Step::Field(key, guarded) => run(alloc, Operation::Field(key, guarded), item),
-        Step::At(key, guarded) => run(alloc, Operation::PartAtKey(guarded, key.copy()?), item),
-        Step::Parts(guarded) => run(alloc, Operation::EveryPart(guarded), item),
-    }
 }

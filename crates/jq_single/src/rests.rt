@@ -4,14 +4,6 @@ use jq_ast::{Key, Tree};
 use jq_state::items::Item;
 use jv_data::Val;
 
-/// A step to a part of an item, or to all of its parts.
-#[derive(Clone, Copy)]
-pub(crate) enum Step<'s> {
-    Field(&'s Key, bool),
-    At(&'s Val, bool),
-    Parts(bool),
-}
-
 /// What is done with each output of the first part.
 #[derive(Clone, Copy)]
 pub(crate) enum Rest<'s> {
@@ -21,8 +13,12 @@ pub(crate) enum Rest<'s> {
     Then(&'s Tree, &'s Context<'s>, &'s Rest<'s>),
     /// Binds it to a variable, runs a filter on another input, and the rest on that filter's outputs.
     Bind(&'s String, &'s Tree, &'s Context<'s>, &'s Item, &'s Rest<'s>),
-    /// Takes a step, and runs the rest on where it leads to.
-    Step(Step<'s>, &'s Rest<'s>),
+    /// Runs the rest on its part at a key of the filter.
+    Field(&'s Key, bool, &'s Rest<'s>),
+    /// Runs the rest on its part at a key that was computed.
+    At(&'s Val, bool, &'s Rest<'s>),
+    /// Runs the rest on each of its parts.
+    Parts(bool, &'s Rest<'s>),
     /// Runs the rest on its path.
     Path(&'s Rest<'s>),
     /// Binds it to a variable, and runs the update of a fold on the state.

@@ -23,16 +23,8 @@ use Rattle.jq_single.specs.private.Scopes.{scope_env}
 use Rattle.jq_single.specs.declared.contexts.Context.{Context}
 use Rattle.jq_single.specs.declared.rests.Rest.{Rest}
 use Rattle.jq_single.specs.declared.rests.Rest.TheVariants as rest
-use Rattle.jq_single.specs.declared.rests.Step.{Step}
-use Rattle.jq_single.specs.declared.rests.Step.TheVariants as step
 use Rattle.jq_single.specs.declared.scopes.Scope.{Scope}
 use Rattle.jq_single.specs.declared.stops.Stop.{Stop}
-
--- Where a step leads to.
-abbrev pub step_run : Step → Item → Run Item
-step_run (step.Field key guarded) x = on_target guarded (string (key_of key.now)) x
-step_run (step.At key guarded) x = on_target guarded (view key.now) x
-step_run (step.Parts guarded) x = each_part guarded x
 
 -- The rest of the filter, applied to an output.
 abbrev pub rest_run : Run Value → (level : ℕ) → Rest → Item → Run Item
@@ -41,7 +33,9 @@ rest_run inputs level (rest.Then' t p q later) x = bind (run p.now inputs level 
 rest_run inputs level (rest.Bind' n t p y q later) x =
     bind (meaning p.now.depth (named t.now) (bound (value_of (text_of n.now) (value_in x)) (scope_env inputs p.now.scope.now)) level (item_of y.now))
     (rest_run inputs level later)
-rest_run inputs level (rest.Step' s q later) x = bind (step_run s x) (rest_run inputs level later)
+rest_run inputs level (rest.Field' key guarded q later) x = bind (on_target guarded (string (key_of key.now)) x) (rest_run inputs level later)
+rest_run inputs level (rest.At' key guarded q later) x = bind (on_target guarded (view key.now) x) (rest_run inputs level later)
+rest_run inputs level (rest.Parts' guarded q later) x = bind (each_part guarded x) (rest_run inputs level later)
 rest_run inputs level (rest.Path' q later) x = bind (path_item x) (rest_run inputs level later)
 rest_run inputs level (rest.Fold n t p) x = one x
 
@@ -66,7 +60,9 @@ abbrev pub made : Run Value → (level : ℕ) → Rest → List Val → Run Item
 made inputs level (rest.End most) xs r = go_on r.ending (one (plain (array (items_of (map view xs ++ map value_in r.items)))))
 made inputs level (rest.Then' t p q later) xs r = made inputs level later xs r
 made inputs level (rest.Bind' n t p y q later) xs r = made inputs level later xs r
-made inputs level (rest.Step' s q later) xs r = made inputs level later xs r
+made inputs level (rest.Field' key guarded q later) xs r = made inputs level later xs r
+made inputs level (rest.At' key guarded q later) xs r = made inputs level later xs r
+made inputs level (rest.Parts' guarded q later) xs r = made inputs level later xs r
 made inputs level (rest.Path' q later) xs r = made inputs level later xs r
 made inputs level (rest.Fold n t p) xs r = folded p.now inputs level (text_of n.now) (named t.now) xs r
 
