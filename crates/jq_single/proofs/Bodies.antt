@@ -3,9 +3,12 @@ use Rattle.std.proofs.Common.{◌≡◌, ◌∙◌, ℕ, ◌+◌, List, map, len
 use Rattle.jv_meaning.specs.Text.{text_of}
 use Rattle.jv_meaning.specs.Value.{Value}
 use Rattle.jq_ast.proofs.shared.Counts.{count_trees}
-use Rattle.jq_ast.specs.Named.{named}
+use Rattle.jq_ast.specs.Named.{named, named_member, named_pattern, named_tree}
 use Rattle.jq_ast.specs.declared.tree.Function.{Function}
 use Rattle.jq_ast.specs.declared.tree.Tree as ast
+use Rattle.jq_ast.specs.declared.tree.Tree.TheVariants as code
+use Rattle.jq_ast.specs.declared.tree.Member.TheFolds.{fold-roll-Tree}
+use Rattle.jq_ast.specs.declared.tree.Member.TheOpen.{Tree-F}
 use Rattle.jq_tree.specs.Tree.{Name, Tree, trees_of, trees_count}
 use Rattle.jq_tree.specs.Tree as tree
 use Rattle.jq_meaning.specs.Builtins.{Builtin, builtin_named, builtin_run}
@@ -73,3 +76,7 @@ prelude_runs p inputs level n ts f own x h =
 -- a call depth that is smaller by one
 pub body_runs : (e : Env) (depth less level : ℕ) (t : Tree) (x : Item) → depth ≡ less + 1 → meaning less t e level x ≡ below depth t e level x
 body_runs e depth less level t x d = ap (λ k. below k t e level x) (sym (add-one less) ∙ sym d)
+
+-- the tree of `.`
+pub named-Identity : named code.Identity ≡ tree.identity
+named-Identity = ap named (sym code.rolls-Identity) ∙ fold-roll-Tree tree.Part tree.Pattern tree.Tree named_member named_pattern named_tree Tree-F.Identity

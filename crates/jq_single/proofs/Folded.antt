@@ -1,5 +1,5 @@
 -- What is claimed of the steps of a fold.
-use Rattle.std.proofs.Common.{◌≡◌, ◌∙◌, ℕ, List, [], ◌∷◌, ◌++◌, length, get_or, Option, Some, None, IfSome, option_to_list, Result, Ok, Err, refl, sym, ap, arith}
+use Rattle.std.proofs.Common.{◌≡◌, ◌∙◌, ℕ, List, [], ◌∷◌, ◌++◌, length, get_or, Option, Some, None, IfSome, option_to_list, Result, Ok, Err, refl, sym, ap, subst, arith}
 use Rattle.jv_meaning.specs.Value.{Value, null, array, items_of}
 use Rattle.jv_data.specs.View.{view}
 use Rattle.jv_data.specs.declared.values.Val.{Val}
@@ -8,12 +8,15 @@ use Rattle.jq_meaning.specs.Continuations.{on_source, on_state}
 use Rattle.jq_meaning.specs.Env.{Env, bound, value_of}
 use Rattle.jq_meaning.specs.Folds.{next_state, reduced}
 use Rattle.jq_meaning.specs.Folds as folds
-use Rattle.jq_meaning.specs.Meaning.{Means, bindings_with}
+use Rattle.jq_meaning.specs.Meaning.{Means, bindings_with, meaning}
 use Rattle.jq_meaning.specs.Runs.{Item, plain, located, value_in, path_error, Ending, Done, Raised, Broken, Stopped, Run, none, one, go_on, then_run, bind_items, bind, gathered}
-use Rattle.jq_tree.specs.Tree.{Name}
+use Rattle.jq_tree.specs.Tree.{Name, Tree}
 use Rattle.jq_tree.specs.Tree as tree
 use Rattle.jq_machine.proofs.RunLaws.{bind-one_right, then_run-none}
-use Rattle.jq_single.specs.private.Gathering.{Gathers, GoesOn, last_or, state_in}
+use Rattle.jq_single.specs.Single.{Ends}
+use Rattle.jq_single.specs.private.Gathering.{Gathers, GoesOn, folded, last_or, state_in, turn}
+use Rattle.jq_single.specs.private.Scopes.{scope_env}
+use Rattle.jq_single.specs.declared.contexts.Context.{Context}
 use Rattle.jq_single.specs.declared.stops.Stop.{Stop}
 
 -- the state is the last value
@@ -101,3 +104,14 @@ pub one_value : (ts : List Val) (t : Val) → length ts ≡ 1 → t ≡ get_or t
 one_value [] t e h = absurd (omega (arith, e))
 one_value (a ∷ []) t e h = ap (λ z. z ∷ []) (sym h)
 one_value (a ∷ b ∷ ts) t e h = absurd (omega (arith, e))
+
+-- ---- a step of a fold sees the value of an item alone
+
+module _ (p : Context) (inputs : Run Value) (level : ℕ) (n : Name) (t : Tree) where
+  step-same : (xs : List Val) (x : Item) (v : Value) → value_in x ≡ v → (q : Run Item) → folded p inputs level n t xs (then_run (one x) q) ≡ folded p inputs level n t xs (then_run (one (plain v)) q)
+  step-same xs x v h q =
+      ap (λ w. next_state (state_in xs) (meaning p.depth t (bound (value_of n w) (scope_env inputs p.scope.now)) level (state_in xs)) (reduced (turn p inputs level n t) q.items q.ending)) h
+
+  pub fold_value : {A : Type 0} (a : Result A Stop) (xs ys : List Val) (x : Item) (v : Value) → value_in x ≡ v → Gathers (folded p inputs level n t) a xs ys (one (plain v)) → Gathers (folded p inputs level n t) a xs ys (one x)
+  fold_value (Ok d) xs ys x v h g = λ q. step-same xs x v h q ∙ g q
+  fold_value (Err s) xs ys x v h g = λ q. subst (Ends s) (sym (step-same xs x v h q)) (g q)

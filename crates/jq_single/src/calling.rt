@@ -1,5 +1,6 @@
 // Calls of one output, and those whose output replaces their input.
-ghost use Rattle.std.specs.Prelude.{map};
+ghost use Rattle.std.specs.Prelude.{◌≡◌, map};
+ghost use Rattle.jv_meaning.specs.Text.{text_of};
 ghost use Rattle.jv_meaning.specs.Value.{Value};
 ghost use Rattle.jv_data.specs.View.{view};
 ghost use Rattle.jq_ast.specs.Named.{name_of, named};
@@ -8,15 +9,19 @@ ghost use Rattle.jq_tree.specs.Tree as form;
 ghost use Rattle.jq_operations.specs.Language.{meaning_of};
 ghost use Rattle.jq_meaning.specs.Builtins.{plain_native};
 ghost use Rattle.jq_meaning.specs.Builtins as meaning;
+ghost use Rattle.jq_meaning.specs.Env.{with_arguments};
+ghost use Rattle.jq_meaning.specs.Runs.{Run};
 ghost use Rattle.jq_single.specs.Single.{Changed, Keeps};
 ghost use Rattle.jq_single.specs.private.Parts.{ChangesBelow, ChangesByBuiltin, ChangesByNative, ChangesTo, RunsBelow, RunsBuiltin, RunsTo};
+ghost use Rattle.jq_single.specs.private.Natives.{RunsNative};
+ghost use Rattle.jq_single.specs.private.Scopes.{scope_env};
 
 use crate::contexts::Context;
 use crate::finding::{Found, callee_of, prelude_of};
 use crate::scopes::Scope;
-use crate::stops::Stop;
-use jq_ast::{Name, Tree};
-use jq_natives::{Native, call_in_place};
+use crate::stops::{Stop, answer};
+use jq_ast::{Function, Name, Tree};
+use jq_natives::{Native, call, call_in_place};
 use jq_operations::{Builtin, builtin_named};
 use jv_data::{Fail, Val};
 use std::alloc::Global;
@@ -37,7 +42,7 @@ impl<'s> Context<'s> {
         let count = arguments.len();
         match callee_of(self.scope, name, count) {
             Found::Function(function, own) => {
-                let scope = Scope::Call(&own, &*function, &*arguments, &*self.scope);
+                let scope = scope_of_call(&own, &*function, &*arguments, &*self.scope);
                 (&*self).get_body(&function.body, &scope, value)
             }
             Found::Closure(body, own) => self.get_body(body, &own, value),
@@ -64,7 +69,7 @@ impl<'s> Context<'s> {
         inside.get(&*body, value)
     }
 
-    /// A name of the language. Its answer replaces a copy of the value.
+    /// A name of the language. `setpath` and `delpaths` would copy the value, so they are not run at once here.
     #[cycle(single)]
     pub(crate) fn get_builtin(
         &self,
@@ -74,14 +79,29 @@ impl<'s> Context<'s> {
     ) -> Result<Val, Stop>
         ensures { RunsBuiltin self.now (meaning_of builtin) (trees_of (map named arguments.now)) (view value.now) result }
     {
-        let inside = Context {
-            kept: true,
-            ..*self
-        };
-        let mut output = value.copy()?;
-        match inside.change_builtin(builtin, arguments, &mut output) {
-            Ok(()) => Ok(output),
-            Err(stop) => Err(stop),
+        match builtin {
+            Builtin::NoOutputs => Err(Stop::Nothing),
+            Builtin::Native(Native::SetPath) => Err(Stop::Unknown),
+            Builtin::Native(Native::DelPaths) => Err(Stop::Unknown),
+            Builtin::Native(native) => self.get_native(native, arguments, value),
+            Builtin::Paths => self.get_path(arguments, value),
+            _ => Err(Stop::Unknown),
+        }
+    }
+
+    // A native with at most one argument.
+    #[cycle(single)]
+    #[inline(never)]
+    fn get_native(&self, native: Native, arguments: &'s [Tree], value: &Val) -> Result<Val, Stop>
+        ensures { RunsNative self.now native (trees_of (map named arguments.now)) (view value.now) result }
+    {
+        match arguments {
+            [] => answer(call(self.alloc, native, value, &[])),
+            [argument] => {
+                let only = self.get(argument, value)?;
+                answer(call(self.alloc, native, value, &[only]))
+            }
+            _ => Err(Stop::Unknown),
         }
     }
 
@@ -100,7 +120,7 @@ impl<'s> Context<'s> {
         let count = arguments.len();
         match callee_of(self.scope, name, count) {
             Found::Function(function, own) => {
-                let scope = Scope::Call(&own, &*function, &*arguments, &*self.scope);
+                let scope = scope_of_call(&own, &*function, &*arguments, &*self.scope);
                 (&*self).change_body(&function.body, &scope, value)
             }
             Found::Closure(body, own) => self.change_body(body, &own, value),
@@ -126,7 +146,7 @@ impl<'s> Context<'s> {
         let count = arguments.len();
         match prelude_of(self.scope, name, count) {
             Found::Function(function, own) => {
-                let scope = Scope::Call(&own, &*function, &*arguments, &*self.scope);
+                let scope = scope_of_call(&own, &*function, &*arguments, &*self.scope);
                 (&*self).change_body(&function.body, &scope, value)
             }
             _ => Err(Stop::Unknown),
@@ -172,7 +192,6 @@ impl<'s> Context<'s> {
             Builtin::Native(Native::SetPath) if self.kept => Err(Stop::Unknown),
             Builtin::Native(Native::DelPaths) if self.kept => Err(Stop::Unknown),
             Builtin::Native(native) => self.change_native(native, arguments, value),
-            Builtin::Paths => self.change_to_path(arguments, value),
             _ => Err(Stop::Unknown),
         }
     }
@@ -202,6 +221,23 @@ impl<'s> Context<'s> {
             }
             _ => Err(Stop::Unknown),
         }
+    }
+}
+
+/// The scope of a function's body, in which the parameters are bound to the arguments of a call. Without parameters it is the
+/// function's own.
+pub(crate) fn scope_of_call<'s>(
+    own: &'s Scope<'s>,
+    function: &'s Function<Tree>,
+    arguments: &'s Vec<Tree>,
+    caller: &'s Scope<'s>,
+) -> Scope<'s>
+    ensures { (inputs : Run Value) → scope_env inputs result ≡ with_arguments (map text_of function.now.parameters.items) (trees_of (map named arguments.now.items)) (scope_env inputs caller.now) (scope_env inputs own.now) }
+{
+    if function.parameters.is_empty() {
+        *own
+    } else {
+        Scope::Call(own, function, arguments, caller)
     }
 }
 

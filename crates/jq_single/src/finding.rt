@@ -10,7 +10,7 @@ ghost use Rattle.jq_meaning.specs.Env as meaning;
 ghost use Rattle.jq_meaning.specs.Runs.{Run};
 ghost use Rattle.jq_state.specs.Environments.{count_of, envs_of};
 ghost use Rattle.jq_single.specs.private.Scopes.{scope_env};
-ghost use Rattle.jq_single.specs.private.Finds.{found_in};
+ghost use Rattle.jq_single.specs.private.Finds.{FindsArgument, found_in};
 ghost use Rattle.jq_operations.specs.Callees.{CalleeFits, callee_in};
 
 use crate::scopes::{Outside, Scope};
@@ -47,8 +47,11 @@ pub(crate) fn callee_of<'s>(scope: &Scope<'s>, name: &Name, count: usize) -> Fou
             }
         }
         Scope::Call(own, function, arguments, caller) => {
+            if count > 0 {
+                return callee_of(own, name, count);
+            }
             let parameters = function.parameters.as_slice();
-            match argument_of(parameters, arguments.as_slice(), name, count) {
+            match argument_of(parameters, arguments.as_slice(), name, None) {
                 Some(argument) => Found::Closure(argument, **caller),
                 None => callee_of(own, name, count),
             }
@@ -56,30 +59,27 @@ pub(crate) fn callee_of<'s>(scope: &Scope<'s>, name: &Name, count: usize) -> Fou
     }
 }
 
-// The argument for the last parameter with this name, which has no arguments itself.
+// The argument for the last parameter with this name, or else what was found before.
 fn argument_of<'s>(
     parameters: &[String],
     arguments: &'s [Tree],
     name: &Name,
-    count: usize,
+    found: Option<&'s Tree>,
 ) -> Option<&'s Tree>
-    ensures { (caller own : Env) → MatchOption result (meaning.find_callee (name_of name.now) count (with_arguments (map text_of parameters.now) (trees_of (map named arguments.now)) caller own) ≡ meaning.find_callee (name_of name.now) count own) (λ t. meaning.find_callee (name_of name.now) count (with_arguments (map text_of parameters.now) (trees_of (map named arguments.now)) caller own) ≡ meaning.found_closure (named t.now) caller) }
+    ensures { (caller base own : Env) → FindsArgument (name_of name.now) found.entry caller base own → FindsArgument (name_of name.now) result caller base (with_arguments (map text_of parameters.now) (trees_of (map named arguments.now)) caller own) }
 {
     match parameters {
         [parameter, later @ ..] => match arguments {
-            [argument, others @ ..] => match argument_of(later, others, name, count) {
-                Some(found) => Some(found),
-                None => {
-                    if count == 0 && is_text(name, parameter) {
-                        Some(argument)
-                    } else {
-                        None
-                    }
+            [argument, others @ ..] => {
+                if is_text(name, parameter) {
+                    argument_of(later, others, name, Some(argument))
+                } else {
+                    argument_of(later, others, name, found)
                 }
-            },
-            [] => None,
+            }
+            [] => found,
         },
-        [] => None,
+        [] => found,
     }
 }
 

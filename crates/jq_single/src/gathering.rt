@@ -9,6 +9,7 @@ ghost use Rattle.jq_operations.specs.Language.{meaning_of};
 ghost use Rattle.jq_state.specs.Items.{item_of};
 ghost use Rattle.jq_single.specs.private.Gathering.{GathersBelow, GathersBuiltin, GathersOf};
 
+use crate::calling::scope_of_call;
 use crate::contexts::Context;
 use crate::finding::{Found, callee_of, prelude_of};
 use crate::giving::ended;
@@ -256,7 +257,7 @@ impl<'s> Context<'s> {
         let count = arguments.len();
         match callee_of(self.scope, name, count) {
             Found::Function(function, own) => {
-                let scope = Scope::Call(&own, &*function, &*arguments, &*self.scope);
+                let scope = scope_of_call(&own, &*function, &*arguments, &*self.scope);
                 (&*self).gather_body(&function.body, &scope, item, &*rest, into)
             }
             Found::Closure(body, own) => self.gather_body(body, &own, item, rest, into),
@@ -283,7 +284,7 @@ impl<'s> Context<'s> {
         let count = arguments.len();
         match prelude_of(self.scope, name, count) {
             Found::Function(function, own) => {
-                let scope = Scope::Call(&own, &*function, &*arguments, &*self.scope);
+                let scope = scope_of_call(&own, &*function, &*arguments, &*self.scope);
                 (&*self).gather_body(&function.body, &scope, item, &*rest, into)
             }
             _ => Err(Stop::Unknown),

@@ -8,9 +8,8 @@ ghost use Rattle.jq_tree.specs.Tree as form;
 ghost use Rattle.jq_meaning.specs.Builtins as meaning;
 ghost use Rattle.jq_meaning.specs.Runs.{located, plain};
 ghost use Rattle.jq_state.specs.Items.{item_of};
-ghost use Rattle.jq_single.specs.Single.{Keeps};
 ghost use Rattle.jq_single.specs.private.Gathering.{GathersBuiltin, GathersOf};
-ghost use Rattle.jq_single.specs.private.Parts.{ChangesByBuiltin, IsUntold};
+ghost use Rattle.jq_single.specs.private.Parts.{IsUntold, RunsBuiltin};
 
 use crate::contexts::Context;
 use crate::giving::ended;
@@ -85,21 +84,17 @@ impl<'s> Context<'s> {
         }
     }
 
-    /// `path(f)` with one path, which replaces the value.
+    /// `path(f)` with one path.
     #[cycle(single)]
     #[inline(never)]
-    pub(crate) fn change_to_path(&self, arguments: &'s [Tree], value: &mut Val) -> Result<(), Stop>
-        ensures runs { ChangesByBuiltin self.now meaning.paths (trees_of (map named arguments.now)) (view value.old) (view value.new) result }
-        ensures keeps { Keeps result (view value.old) (view value.new) }
+    pub(crate) fn get_path(&self, arguments: &'s [Tree], value: &Val) -> Result<Val, Stop>
+        ensures { RunsBuiltin self.now meaning.paths (trees_of (map named arguments.now)) (view value.now) result }
     {
         let mut paths = Vec::new(self.alloc);
         let end = Rest::End(1);
         match (&*self).gather_paths(&*arguments, value, &end, &mut paths) {
             Ok(()) => match only_of(paths) {
-                Some(path) => {
-                    *value = path;
-                    Ok(())
-                }
+                Some(path) => Ok(path),
                 None => Err(Stop::Unknown),
             },
             Err(stop) => Err(untold(stop)),

@@ -1,8 +1,12 @@
 -- What a call finds in a scope.
+use Rattle.std.specs.Prelude.{◌≡◌, Option, MatchOption}
+use Rattle.std.specs.Borrow.{Bor}
 use Rattle.jv_meaning.specs.Value.{Value}
 use Rattle.jq_ast.specs.Named.{named}
+use Rattle.jq_ast.specs.declared.tree.Tree.{Tree}
+use Rattle.jq_tree.specs.Tree.{Name}
 use Rattle.jq_operations.specs.Callees as callees
-use Rattle.jq_meaning.specs.Env.{found_closure, no_callee}
+use Rattle.jq_meaning.specs.Env.{Env, find_callee, found_closure, no_callee}
 use Rattle.jq_meaning.specs.Env as meaning
 use Rattle.jq_meaning.specs.Runs.{Run}
 use Rattle.jq_single.specs.declared.finding.Found.{Found}
@@ -13,3 +17,8 @@ abbrev pub found_in : Run Value → Found → meaning.Callee
 found_in inputs (found.Function f own) = callees.found f.now (scope_env inputs own)
 found_in inputs (found.Closure t own) = found_closure (named t.now) (scope_env inputs own)
 found_in inputs found.Nothing = no_callee
+
+-- A name without arguments finds an argument, with the caller's environment, or what it finds in another environment.
+abbrev pub FindsArgument : Name → Option (Bor Tree) → (caller base e : Env) → Type 0
+FindsArgument n found caller base e =
+    MatchOption found (find_callee n 0 e ≡ find_callee n 0 base) (λ t. find_callee n 0 e ≡ found_closure (named t.now) caller)

@@ -5,7 +5,7 @@ use Rattle.jv_data.specs.View.{view}
 use Rattle.jq_state.proofs.shared.Items.{value_of_item}
 use Rattle.jq_single.proofs.giving.add.Goals as goal
 
-pub returns-in_ok-push : goal.returns-in_ok-push
-returns-in_ok-push c =
+pub returns : goal.returns
+returns c =
     ap (map view) c.in_ok-push.ensures.items ∙ map-append view c.args.into.now.items (c.args.item.value ∷ [])
     ∙ ap (λ (w : Value). map view c.args.into.now.items ++ w ∷ []) (sym (value_of_item c.args.item))

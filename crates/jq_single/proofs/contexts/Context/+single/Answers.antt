@@ -44,11 +44,11 @@ use Rattle.jq_single.specs.Single.{Changed, Ends}
 use Rattle.jq_single.proofs.Binding.{bind-known, ends-bind, ends-after, answers-bind, changed-bind, changed_holds, changed_fails, changed-stops, goes-changed, keeps-stops, leaves_same, stops, untold, text_key, and_goes, and_stops, or_goes, or_stops, truth_of, test_holds, test_fails, caught, with_variable, text-bind, text-stops}
 use Rattle.jq_single.specs.declared.rests.Rest.{Rest}
 use Rattle.jq_single.proofs.Gathered.{gathers-none, gathers-then, gathers-fail, gathers_all, gives_first, stops_first, stops-then, gathered_list, ends_gathered, bound_rest, picks_holds, picks_fails}
-use Rattle.jq_single.proofs.Folded.{turned, fold_ends, single_fold}
+use Rattle.jq_single.proofs.Folded.{fold_value, turned, fold_ends, single_fold}
 use Rattle.jq_single.proofs.Outcomes.{getpath_keys, setpath_keys, put_turn, keep_turn, raising_turn}
 use Rattle.jq_single.proofs.Updated.{finish-run, update_once, put_once, delete_once, raise_once}
 use Rattle.jq_single.proofs.Located.{path_given, path_of_builtin, paths-rest}
-use Rattle.jq_single.proofs.Bodies.{body_runs, builtin_runs, closure_runs, function_runs, prelude_runs}
+use Rattle.jq_single.proofs.Bodies.{body_runs, builtin_runs, closure_runs, function_runs, named-Identity, prelude_runs}
 use Rattle.jq_single.proofs.GivenArguments.{native_plain, two_chosen, two_given}
 use Rattle.jq_single.proofs.contexts.Context.+single.Goals as goal
 
@@ -82,26 +82,15 @@ get_changed-returns-in-Err t c = λ inputs level.
 
 -- ---- parts
 
-pub field-returns-in_ok-found : goal.field-returns-in_ok-found
-field-returns-in_ok-found t c = λ inputs level.
-    let v = plain (view c.args.value.now) in
-    let w = plain (view c.in_ok-found.found) in
-    let guarded = c.args.guarded in
-    let key : view c.value.result.now ≡ string (key_of c.args.key.now) =
-    text_key (view c.value.result.now) c.value.ensures.text ∙ ap (λ (k : Val). string (characters (view k))) c.value.ensures.same in
-    answers-bind c.part_at.result (run c.args.self.now inputs level (named c.args.target.now) v) w (on_target guarded (string (key_of c.args.key.now)))
-    (c.in_ok-found.ensures inputs level)
-    (subst (λ (k : Value). Answers c.part_at.result (on_target guarded k w)) key c.part_at.ensures)
-
 pub field-returns-in_err-found : goal.field-returns-in_err-found
 field-returns-in_err-found t c = λ inputs level.
     let v = plain (view c.args.value.now) in
     let go : Tree → Item → Run Item = run c.args.self.now inputs level in
     stops c.from_residual.result c.in_err-found.field-0.0 _ c.from_residual.ensures.1 (ends-bind c.in_err-found.field-0.0 (go (named c.args.target.now) v) (on_target c.args.guarded (string (key_of c.args.key.now))) (c.in_err-found.ensures inputs level))
 
-pub index-returns-in_ok-found : goal.index-returns-in_ok-found
+pub index-returns : goal.index-returns
 unfolding on_key
-index-returns-in_ok-found t c = λ inputs level.
+index-returns t c = λ inputs level.
     let v = plain (view c.args.value.now) in
     let go : Tree → Item → Run Item = run c.args.self.now inputs level in
     answers-bind c.part_at.result (go (named c.args.key.now) v) (plain (view c.in_ok-at.at)) (on_key c.args.guarded (go (named c.args.target.now) v)) (c.in_ok-at.ensures inputs level)
@@ -123,9 +112,9 @@ index-returns-in_err-found t c = λ inputs level.
     (ends-after s (go (named c.args.key.now) v) (plain (view c.in_ok-at.at)) (on_key c.args.guarded (go (named c.args.target.now) v)) (c.in_ok-at.ensures inputs level)
     (ends-bind s (go (named c.args.target.now) v) (on_target c.args.guarded (view c.in_ok-at.at)) (c.in_err-found.ensures inputs level)))
 
-pub slice-returns-in_ok-found : goal.slice-returns-in_ok-found
+pub slice-returns : goal.slice-returns
 unfolding on_start on_end
-slice-returns-in_ok-found t c = λ inputs level.
+slice-returns t c = λ inputs level.
     let v = plain (view c.args.value.now) in
     let go : Tree → Run Item = λ u. run c.args.self.now inputs level u v in
     let ends = go (named c.args.to.now) in
@@ -171,20 +160,15 @@ slice-returns-in_err-found t c = λ inputs level.
 
 -- ---- values of parts
 
-pub pipe-returns-in_ok-between : goal.pipe-returns-in_ok-between
-pipe-returns-in_ok-between t c = λ inputs level.
-    answers-bind c.get-2.result (run c.args.self.now inputs level (named c.args.first.now) (plain (view c.args.value.now))) (plain (view c.in_ok-between.between)) (run c.args.self.now inputs level (named c.args.second.now))
-    (c.in_ok-between.ensures inputs level) (c.get-2.ensures inputs level)
-
 pub pipe-returns-in_err-between : goal.pipe-returns-in_err-between
 pipe-returns-in_err-between t c = λ inputs level.
     let v = plain (view c.args.value.now) in
     let go : Tree → Item → Run Item = run c.args.self.now inputs level in
     stops c.from_residual.result c.in_err-between.field-0.0 _ c.from_residual.ensures.1 (ends-bind c.in_err-between.field-0.0 (go (named c.args.first.now) v) (go (named c.args.second.now)) (c.in_err-between.ensures inputs level))
 
-pub binary-returns-in_ok-first : goal.binary-returns-in_ok-first
+pub binary-returns : goal.binary-returns
 unfolding on_right
-binary-returns-in_ok-first t c = λ inputs level.
+binary-returns t c = λ inputs level.
     let v = plain (view c.args.value.now) in
     let go : Tree → Item → Run Item = run c.args.self.now inputs level in
     let op = operator_of c.args.operator in
@@ -208,11 +192,6 @@ binary-returns-in_err-first t c = λ inputs level.
     (ends-after s (go (named c.args.right.now) v) (plain (view c.in_ok-second.second)) (on_right op (go (named c.args.left.now) v)) (c.in_ok-second.ensures inputs level)
     (ends-bind s (go (named c.args.left.now) v) (on_left op (view c.in_ok-second.second)) (c.in_err-first.ensures inputs level)))
 
-pub negation-returns-in_ok-found : goal.negation-returns-in_ok-found
-negation-returns-in_ok-found t c = λ inputs level.
-    answers-bind c.negative.result (run c.args.self.now inputs level (named c.args.operand.now) (plain (view c.args.value.now))) (plain (view c.in_ok-found.found)) negated
-    (c.in_ok-found.ensures inputs level) c.negative.ensures
-
 pub negation-returns-in_err-found : goal.negation-returns-in_err-found
 negation-returns-in_err-found t c = λ inputs level.
     let v = plain (view c.args.value.now) in
@@ -221,8 +200,8 @@ negation-returns-in_err-found t c = λ inputs level.
 
 -- ---- conditions
 
-pub get_truth-returns-in_ok-output : goal.get_truth-returns-in_ok-output
-get_truth-returns-in_ok-output t c = λ inputs level.
+pub get_truth-returns : goal.get_truth-returns
+get_truth-returns t c = λ inputs level.
     truth_of (run c.args.self.now inputs level (named c.args.tree.now) (plain (view c.args.value.now))) (view c.in_ok-output.output) c.truth.result
     (c.in_ok-output.ensures inputs level) c.truth.ensures
     ∙ ap (λ (w : Value). one (plain w)) (sym (view-Bool c.truth.result))
@@ -240,8 +219,8 @@ and-returns-then-truth t c = λ inputs level.
     and_goes c.get_truth.result (go (named c.args.left.now) v) (view c.in_ok-first.first) (go (named c.args.right.now)) v
     (c.in_ok-first.ensures inputs level) (sym c.truth.ensures ∙ c.if-truth.true) (c.get_truth.ensures inputs level)
 
-pub and-returns-in_ok-first : goal.and-returns-in_ok-first
-and-returns-in_ok-first t c = λ inputs level.
+pub and-returns : goal.and-returns
+and-returns t c = λ inputs level.
     let v = plain (view c.args.value.now) in
     let go : Tree → Item → Run Item = run c.args.self.now inputs level in
     and_stops (go (named c.args.left.now) v) (view c.in_ok-first.first) (go (named c.args.right.now)) v
@@ -254,8 +233,8 @@ and-returns-in_err-first t c = λ inputs level.
     let go : Tree → Item → Run Item = run c.args.self.now inputs level in
     stops c.from_residual.result c.in_err-first.field-0.0 _ c.from_residual.ensures.1 (ends-bind c.in_err-first.field-0.0 (go (named c.args.left.now) v) (on_conjunct (go (named c.args.right.now)) v) (c.in_err-first.ensures inputs level))
 
-pub or-returns-in_ok-first : goal.or-returns-in_ok-first
-or-returns-in_ok-first t c = λ inputs level.
+pub or-returns : goal.or-returns
+or-returns t c = λ inputs level.
     let v = plain (view c.args.value.now) in
     let go : Tree → Item → Run Item = run c.args.self.now inputs level in
     or_goes c.get_truth.result (go (named c.args.left.now) v) (view c.in_ok-first.first) (go (named c.args.right.now)) v
@@ -282,8 +261,8 @@ choice-returns-then-truth t c = λ inputs level.
     test_holds c.get-then-truth.result (go (named c.args.condition.now) v) (view c.in_ok-test.test) (go (named c.args.holds.now)) (go (named c.args.fails.now)) v
     (c.in_ok-test.ensures inputs level) (sym c.truth.ensures ∙ c.if-truth.true) (c.get-then-truth.ensures inputs level)
 
-pub choice-returns-in_ok-test : goal.choice-returns-in_ok-test
-choice-returns-in_ok-test t c = λ inputs level.
+pub choice-returns : goal.choice-returns
+choice-returns t c = λ inputs level.
     let v = plain (view c.args.value.now) in
     let go : Tree → Item → Run Item = run c.args.self.now inputs level in
     test_fails c.get-else-truth.result (go (named c.args.condition.now) v) (view c.in_ok-test.test) (go (named c.args.holds.now)) (go (named c.args.fails.now)) v
@@ -354,9 +333,10 @@ get_call-returns-in-Function t c = λ inputs level.
     let n = name_of c.args.name.now in
     let ts = c.args.arguments.now.items in
     let e = scope_env inputs p.scope.now in
-    let count : c.len-count.result ≡ length ts = c.len-count.ensures in
+    let count : c.len-count.result ≡ length ts = c.len-count.ensures ∙ c.args.arguments.now.ok.0 in
     subst (Answers c.get_body.result)
-    (sym (function_runs p inputs level n ts c.in-Function.function.now c.in-Function.own (plain (view c.args.value.now)) (c.in-Function.ensures inputs ∙ ap (λ k. find_callee n k e) count)))
+    (ap (λ own. below p.depth (named c.in-Function.function.now.body) own level (plain (view c.args.value.now))) (c.scope_of_call-scope.ensures inputs)
+    ∙ sym (function_runs p inputs level n ts c.in-Function.function.now c.in-Function.own (plain (view c.args.value.now)) (c.in-Function.ensures inputs ∙ ap (λ k. find_callee n k e) count)))
     (c.get_body.ensures inputs level)
 
 pub get_call-returns-in-Closure : goal.get_call-returns-in-Closure
@@ -365,7 +345,7 @@ get_call-returns-in-Closure t c = λ inputs level.
     let n = name_of c.args.name.now in
     let ts = c.args.arguments.now.items in
     let e = scope_env inputs p.scope.now in
-    let count : c.len-count.result ≡ length ts = c.len-count.ensures in
+    let count : c.len-count.result ≡ length ts = c.len-count.ensures ∙ c.args.arguments.now.ok.0 in
     subst (Answers c.get_body-in-Closure.result)
     (sym (closure_runs p inputs level n ts (named c.in-Closure.body.now) c.in-Closure.own (plain (view c.args.value.now)) (c.in-Closure.ensures inputs ∙ ap (λ k. find_callee n k e) count)))
     (c.get_body-in-Closure.ensures inputs level)
@@ -376,7 +356,7 @@ get_call-returns-in-Nothing t c = λ inputs level.
     let n = name_of c.args.name.now in
     let ts = c.args.arguments.now.items in
     let e = scope_env inputs p.scope.now in
-    let count : c.len-count.result ≡ length ts = c.len-count.ensures in
+    let count : c.len-count.result ≡ length ts = c.len-count.ensures ∙ c.args.arguments.now.ok.0 in
     let b = meaning_of c.builtin_named-builtin.result in
     let means : b ≡ builtin_named n (length ts) =
     c.builtin_named-builtin.ensures ∙ ap (λ bs. builtin_named (chars bs) c.len-count.result) c.as_str.ensures.value ∙ ap (builtin_named n) count in
@@ -391,9 +371,10 @@ change_call-returns-in-Function-clause-runs t c = λ inputs level.
     let n = name_of c.args.name.now in
     let ts = c.args.arguments.now.items in
     let e = scope_env inputs p.scope.now in
-    let count : c.len-count.result ≡ length ts = c.len-count.ensures in
+    let count : c.len-count.result ≡ length ts = c.len-count.ensures ∙ c.args.arguments.now.ok.0 in
     subst (Changed c.change_body.result (view c.change_body.new.value))
-    (sym (function_runs p inputs level n ts c.in-Function.function.now c.in-Function.own (plain (view c.args.value.now)) (c.in-Function.ensures inputs ∙ ap (λ k. find_callee n k e) count)))
+    (ap (λ own. below p.depth (named c.in-Function.function.now.body) own level (plain (view c.args.value.now))) (c.scope_of_call-scope.ensures inputs)
+    ∙ sym (function_runs p inputs level n ts c.in-Function.function.now c.in-Function.own (plain (view c.args.value.now)) (c.in-Function.ensures inputs ∙ ap (λ k. find_callee n k e) count)))
     (c.change_body.ensures.runs inputs level)
 
 pub change_call-returns-in-Closure-clause-runs : goal.change_call-returns-in-Closure-clause-runs
@@ -402,7 +383,7 @@ change_call-returns-in-Closure-clause-runs t c = λ inputs level.
     let n = name_of c.args.name.now in
     let ts = c.args.arguments.now.items in
     let e = scope_env inputs p.scope.now in
-    let count : c.len-count.result ≡ length ts = c.len-count.ensures in
+    let count : c.len-count.result ≡ length ts = c.len-count.ensures ∙ c.args.arguments.now.ok.0 in
     subst (Changed c.change_body-in-Closure.result (view c.change_body-in-Closure.new.value))
     (sym (closure_runs p inputs level n ts (named c.in-Closure.body.now) c.in-Closure.own (plain (view c.args.value.now)) (c.in-Closure.ensures inputs ∙ ap (λ k. find_callee n k e) count)))
     (c.change_body-in-Closure.ensures.runs inputs level)
@@ -413,7 +394,7 @@ change_call-returns-in-Nothing-clause-runs t c = λ inputs level.
     let n = name_of c.args.name.now in
     let ts = c.args.arguments.now.items in
     let e = scope_env inputs p.scope.now in
-    let count : c.len-count.result ≡ length ts = c.len-count.ensures in
+    let count : c.len-count.result ≡ length ts = c.len-count.ensures ∙ c.args.arguments.now.ok.0 in
     let b = meaning_of c.builtin_named-builtin.result in
     let means : b ≡ builtin_named n (length ts) =
     c.builtin_named-builtin.ensures ∙ ap (λ bs. builtin_named (chars bs) c.len-count.result) c.as_str.ensures.value ∙ ap (builtin_named n) count in
@@ -428,9 +409,10 @@ change_prelude_call-returns-in-Function-clause-runs t c = λ inputs level.
     let n = name_of c.args.name.now in
     let ts = c.args.arguments.now.items in
     let e = scope_env inputs p.scope.now in
-    let count : c.len-count.result ≡ length ts = c.len-count.ensures in
+    let count : c.len-count.result ≡ length ts = c.len-count.ensures ∙ c.args.arguments.now.ok.0 in
     subst (Changed c.change_body.result (view c.change_body.new.value))
-    (sym (prelude_runs p inputs level n ts c.in-Function.function.now c.in-Function.own (plain (view c.args.value.now)) (c.in-Function.ensures inputs ∙ ap (λ k. find_in_prelude n k e) count)))
+    (ap (λ own. below p.depth (named c.in-Function.function.now.body) own level (plain (view c.args.value.now))) (c.scope_of_call-scope.ensures inputs)
+    ∙ sym (prelude_runs p inputs level n ts c.in-Function.function.now c.in-Function.own (plain (view c.args.value.now)) (c.in-Function.ensures inputs ∙ ap (λ k. find_in_prelude n k e) count)))
     (c.change_body.ensures.runs inputs level)
 
 pub get_body-returns : goal.get_body-returns
@@ -440,13 +422,14 @@ get_body-returns t c = λ inputs level.
     (body_runs (scope_env inputs c.args.own.now) depth (depth - 1) level (named c.args.body.now) (plain (view c.args.value.now)) (omega arith))
     (c.get.ensures inputs level)
 
-pub get_builtin-returns-in-Ok : goal.get_builtin-returns-in-Ok
-get_builtin-returns-in-Ok t c = λ inputs level.
-    ap (λ (v : Value). builtin_in c.args.self.now inputs level (meaning_of c.args.builtin) (trees_of (map named c.args.arguments.now)) (plain v)) (sym c.in_ok-output.ensures) ∙ c.in-Ok.ensures.runs inputs level
-
-pub get_builtin-returns-in-Err : goal.get_builtin-returns-in-Err
-get_builtin-returns-in-Err t c = λ inputs level.
-    subst (λ (v : Value). Ends c.in-Err.stop (builtin_in c.args.self.now inputs level (meaning_of c.args.builtin) (trees_of (map named c.args.arguments.now)) (plain v))) c.in_ok-output.ensures (c.in-Err.ensures.runs inputs level)
+pub get_builtin-returns-in-Native : goal.get_builtin-returns-in-Native
+get_builtin-returns-in-Native t c = λ inputs level.
+    let p = c.args.self.now in
+    let us = trees_of (map named c.args.arguments.now) in
+    let v = view c.args.value.now in
+    subst (Answers c.get_native.result)
+    (sym (ap (λ b. builtin_in p inputs level (meaning_of b) us (plain v)) c.in-Native.is ∙ native_plain c.in-Native.native (arguments_with (below p.depth) us (scope_env inputs p.scope.now) level (plain v)) v))
+    (c.get_native.ensures inputs level)
 
 pub change_body-returns-clause-runs : goal.change_body-returns-clause-runs
 change_body-returns-clause-runs t c = λ inputs level.
@@ -464,8 +447,8 @@ change_builtin-returns-in-Native-clause-runs t c = λ inputs level.
     (sym (ap (λ b. builtin_in p inputs level (meaning_of b) us (plain v)) c.in-Native.is ∙ native_plain c.in-Native.native (arguments_with (below p.depth) us (scope_env inputs p.scope.now) level (plain v)) v))
     (c.change_native.ensures.runs inputs level)
 
-pub change_to_path-returns-in-Some-clause-runs : goal.change_to_path-returns-in-Some-clause-runs
-change_to_path-returns-in-Some-clause-runs t c = λ inputs level.
+pub get_path-returns-in-Some : goal.get_path-returns-in-Some
+get_path-returns-in-Some t c = λ inputs level.
     let r : Run Item = builtin_in c.args.self.now inputs level meaning.paths (trees_of (map named c.args.arguments.now)) (plain (view c.args.value.now)) in
     let all : gathered r ≡ one (plain (array (items_of (map view c.gather_paths.new.into.items)))) =
     gathered_list inputs level 1 (tt {0}) c.new-paths.result.items c.gather_paths.new.into.items r c.new-paths.ensures.items (c.in-Ok.ensures inputs level) in
@@ -485,9 +468,9 @@ change_binary-returns-in-Ok-clause-runs t c = λ inputs level.
 pub change_binary-returns-in-Ok-clause-keeps : goal.change_binary-returns-in-Ok-clause-keeps
 change_binary-returns-in-Ok-clause-keeps t c = c.operate_in_place.ensures.keeps (view c.args.value.now)
 
-pub change_binary-returns-in-Err-clause-runs : goal.change_binary-returns-in-Err-clause-runs
+pub change_binary-returns-clause-runs : goal.change_binary-returns-clause-runs
 unfolding on_right
-change_binary-returns-in-Err-clause-runs t c = λ inputs level.
+change_binary-returns-clause-runs t c = λ inputs level.
     let v = plain (view c.args.value.now) in
     let go : Tree → Item → Run Item = run c.args.self.now inputs level in
     let op = operator_of c.args.operator in
@@ -510,8 +493,8 @@ change_choice-returns-then-truth-clause-runs t c = λ inputs level.
     changed_holds c.change.result (view c.change.new.value) (go (named c.args.condition.now) v) (view c.in_ok-test.test) (go (named c.args.holds.now)) (go (named c.args.fails.now)) v
     (c.in_ok-test.ensures inputs level) (sym c.truth.ensures ∙ c.if-truth.true) (c.change.ensures.runs inputs level)
 
-pub change_choice-returns-in_ok-test-clause-runs : goal.change_choice-returns-in_ok-test-clause-runs
-change_choice-returns-in_ok-test-clause-runs t c = λ inputs level.
+pub change_choice-returns-clause-runs : goal.change_choice-returns-clause-runs
+change_choice-returns-clause-runs t c = λ inputs level.
     let v = plain (view c.args.value.now) in
     let go : Tree → Item → Run Item = run c.args.self.now inputs level in
     changed_fails c.change-else-truth.result (view c.change-else-truth.new.value) (go (named c.args.condition.now) v) (view c.in_ok-test.test) (go (named c.args.holds.now)) (go (named c.args.fails.now)) v
@@ -534,27 +517,10 @@ change_binding-returns-in_ok-found-in-Whole-clause-runs t c = λ inputs level.
     subst (λ q. Changed c.change.result (view c.change.new.value) (run p inputs level (bind_as (named c.args.source.now) q (named c.args.body.now)) x)) (sym (ap named_as_pattern c.in-Whole.is ∙ named-Whole c.in-Whole.name))
     (subst (Changed c.change.result (view c.change.new.value)) (sym same) (c.change.ensures.runs inputs level))
 
-pub change_native-returns-in_ok-other-clause-runs : goal.change_native-returns-in_ok-other-clause-runs
-change_native-returns-in_ok-other-clause-runs t c = λ inputs level.
-    let p = c.args.self.now in
-    let f = c.args.native in
-    let ts = c.args.arguments.now in
-    let v = view c.args.value.now in
-    let first = c.first-item.result in
-    let second = c.second-item.result in
-    let two : length ts ≡ 2 = omega (arith, c.in-len2.len_at_least, c.in-len2.len_below) in
-    let goes = run p inputs level (named second) (plain v) in
-    let next = λ (x : Item). bind goes (λ y. plain_native f v (value_in x ∷ value_in y ∷ [])) in
-    let a = c.call_on-in_ok-other.result in
-    let w = view c.call_on-in_ok-other.new.value in
-    subst (Changed a w) (sym (two_given p inputs level f ts first second v two c.first-item.is c.second-item.is))
-    (changed-bind a w (run p inputs level (named first) (plain v)) (plain (view c.in_ok-one.one)) next (c.in_ok-one.ensures inputs level)
-    (changed-bind a w goes (plain (view c.in_ok-other.other)) (λ y. plain_native f v (view c.in_ok-one.one ∷ value_in y ∷ [])) (c.in_ok-other.ensures inputs level) c.call_on-in_ok-other.ensures.runs))
-
 -- ---- several outputs
 
-pub array-returns-in_ok-from_vec : goal.array-returns-in_ok-from_vec
-array-returns-in_ok-from_vec t c = λ inputs level.
+pub array-returns : goal.array-returns
+array-returns t c = λ inputs level.
     let p = c.args.self.now in
     let made = c.in_ok-from_vec.field-0 in
     let input : item_of c.plain-input.result ≡ plain (view c.args.value.now) = c.plain-input.ensures ∙ ap plain c.in_ok-copy.ensures in
@@ -690,8 +656,8 @@ gather_choice-returns t c = λ inputs level.
     (ends-bind c.in-Err.stop (bind r test) later (ends-bind c.in-Err.stop r test
     (subst (λ (w : Value). Ends c.in-Err.stop (go (named c.args.condition.now) (plain w))) (sym (value_of_item c.args.item.now)) (c.in-Err.ensures inputs level))))
 
-pub gather_binding-returns-in_ok-input-in-Whole : goal.gather_binding-returns-in_ok-input-in-Whole
-gather_binding-returns-in_ok-input-in-Whole t c = λ inputs level.
+pub gather_binding-returns-in_ok-copy-in-Whole : goal.gather_binding-returns-in_ok-copy-in-Whole
+gather_binding-returns-in_ok-copy-in-Whole t c = λ inputs level.
     let p = c.args.self.now in
     let x = item_of c.args.item.now in
     let later : Item → Run Item = rest_run inputs level c.args.rest.now in
@@ -709,9 +675,10 @@ gather_call-returns-in-Function t c = λ inputs level.
     let n = name_of c.args.name.now in
     let ts = c.args.arguments.now.items in
     let e = scope_env inputs p.scope.now in
-    let count : c.len-count.result ≡ length ts = c.len-count.ensures in
+    let count : c.len-count.result ≡ length ts = c.len-count.ensures ∙ c.args.arguments.now.ok.0 in
     subst (λ r. Gathers (made inputs level c.args.rest.now) c.gather_body.result c.args.into.now.items c.gather_body.new.into.items (bind r (rest_run inputs level c.args.rest.now)))
-    (sym (function_runs p inputs level n ts c.in-Function.function.now c.in-Function.own (item_of c.args.item.now) (c.in-Function.ensures inputs ∙ ap (λ k. find_callee n k e) count)))
+    (ap (λ own. below p.depth (named c.in-Function.function.now.body) own level (item_of c.args.item.now)) (c.scope_of_call-scope.ensures inputs)
+    ∙ sym (function_runs p inputs level n ts c.in-Function.function.now c.in-Function.own (item_of c.args.item.now) (c.in-Function.ensures inputs ∙ ap (λ k. find_callee n k e) count)))
     (c.gather_body.ensures inputs level)
 
 pub gather_call-returns-in-Closure : goal.gather_call-returns-in-Closure
@@ -720,7 +687,7 @@ gather_call-returns-in-Closure t c = λ inputs level.
     let n = name_of c.args.name.now in
     let ts = c.args.arguments.now.items in
     let e = scope_env inputs p.scope.now in
-    let count : c.len-count.result ≡ length ts = c.len-count.ensures in
+    let count : c.len-count.result ≡ length ts = c.len-count.ensures ∙ c.args.arguments.now.ok.0 in
     subst (λ r. Gathers (made inputs level c.args.rest.now) c.gather_body-in-Closure.result c.args.into.now.items c.gather_body-in-Closure.new.into.items (bind r (rest_run inputs level c.args.rest.now)))
     (sym (closure_runs p inputs level n ts (named c.in-Closure.body.now) c.in-Closure.own (item_of c.args.item.now) (c.in-Closure.ensures inputs ∙ ap (λ k. find_callee n k e) count)))
     (c.gather_body-in-Closure.ensures inputs level)
@@ -731,7 +698,7 @@ gather_call-returns-in-Nothing t c = λ inputs level.
     let n = name_of c.args.name.now in
     let ts = c.args.arguments.now.items in
     let e = scope_env inputs p.scope.now in
-    let count : c.len-count.result ≡ length ts = c.len-count.ensures in
+    let count : c.len-count.result ≡ length ts = c.len-count.ensures ∙ c.args.arguments.now.ok.0 in
     let b = meaning_of c.builtin_named-builtin.result in
     let means : b ≡ builtin_named n (length ts) =
     c.builtin_named-builtin.ensures ∙ ap (λ bs. builtin_named (chars bs) c.len-count.result) c.as_str.ensures.value ∙ ap (builtin_named n) count in
@@ -746,9 +713,10 @@ gather_prelude_call-returns-in-Function t c = λ inputs level.
     let n = name_of c.args.name.now in
     let ts = c.args.arguments.now.items in
     let e = scope_env inputs p.scope.now in
-    let count : c.len-count.result ≡ length ts = c.len-count.ensures in
+    let count : c.len-count.result ≡ length ts = c.len-count.ensures ∙ c.args.arguments.now.ok.0 in
     subst (λ r. Gathers (made inputs level c.args.rest.now) c.gather_body.result c.args.into.now.items c.gather_body.new.into.items (bind r (rest_run inputs level c.args.rest.now)))
-    (sym (prelude_runs p inputs level n ts c.in-Function.function.now c.in-Function.own (item_of c.args.item.now) (c.in-Function.ensures inputs ∙ ap (λ k. find_in_prelude n k e) count)))
+    (ap (λ own. below p.depth (named c.in-Function.function.now.body) own level (item_of c.args.item.now)) (c.scope_of_call-scope.ensures inputs)
+    ∙ sym (prelude_runs p inputs level n ts c.in-Function.function.now c.in-Function.own (item_of c.args.item.now) (c.in-Function.ensures inputs ∙ ap (λ k. find_in_prelude n k e) count)))
     (c.gather_body.ensures inputs level)
 
 pub gather_body-returns : goal.gather_body-returns
@@ -804,11 +772,6 @@ gather_paths-returns-in_ok-start-in-len1 t c = λ inputs level.
     ∙ sym (ap (λ q. bind q later) (path_given p inputs level ts first v only c.argument-item.is) ∙ paths-rest (go (located v [])) later))
     (c.gather.ensures inputs level)
 
-pub give_step-returns-in_ok-outputs : goal.give_step-returns-in_ok-outputs
-give_step-returns-in_ok-outputs t c = λ inputs level.
-    subst (λ r. Gathers (made inputs level c.args.later.now) c.give_outputs.result c.args.into.now.items c.give_outputs.new.into.items (bind r (rest_run inputs level c.args.later.now)))
-    c.in_ok-outputs.ensures (c.give_outputs.ensures inputs level)
-
 pub give_outputs-returns-in-Error : goal.give_outputs-returns-in-Error
 give_outputs-returns-in-Error t c = λ inputs level.
     let later : Item → Run Item = rest_run inputs level c.args.rest.now in
@@ -837,10 +800,12 @@ give_several-loop-item-preserved t c = λ inputs level a ys h.
 pub give-returns-in-Fold : goal.give-returns-in-Fold
 give-returns-in-Fold t c = λ inputs level.
     let x = item_of c.args.item in
-    subst (λ (l : Rest). Gathers (made inputs level l) c.turn.result c.args.into.now.items c.turn.new.states.items (bind (one x) (rest_run inputs level l))) (sym c.in-Fold.is) (c.turn.ensures inputs level)
+    let q = c.in-Fold.context.now in
+    subst (λ (l : Rest). Gathers (made inputs level l) c.turn.result c.args.into.now.items c.turn.new.states.items (bind (one x) (rest_run inputs level l))) (sym c.in-Fold.is)
+    (fold_value q inputs level (text_of c.in-Fold.name.now) (named c.in-Fold.update.now) c.turn.result c.args.into.now.items c.turn.new.states.items x (view c.args.item.value) (value_of_item c.args.item) (c.turn.ensures inputs level))
 
-pub gather_range-returns-in-Ok-Ok : goal.gather_range-returns-in-Ok-Ok
-gather_range-returns-in-Ok-Ok t c = λ inputs level.
+pub gather_range-returns-in-Ok-get : goal.gather_range-returns-in-Ok-get
+gather_range-returns-in-Ok-get t c = λ inputs level.
     let p = c.args.self.now in
     let ts = c.args.arguments.now in
     let v = view c.args.value.now in
@@ -859,8 +824,8 @@ gather_range-returns-in-Ok-Ok t c = λ inputs level.
     (sym (same ∙ bind-known start low next (c.in-Ok.ensures inputs level) ∙ bind-known end (plain (view c.in-Ok-Ok.last)) numbers (c.in-Ok-Ok.ensures inputs level)))
     (c.give_range.ensures inputs level)
 
-pub gather_range-returns-in-Err : goal.gather_range-returns-in-Err
-gather_range-returns-in-Err t c = λ inputs level.
+pub gather_range-returns-in-len2 : goal.gather_range-returns-in-len2
+gather_range-returns-in-len2 t c = λ inputs level.
     let p = c.args.self.now in
     let ts = c.args.arguments.now in
     let v = view c.args.value.now in
@@ -876,8 +841,8 @@ gather_range-returns-in-Err t c = λ inputs level.
     c.ended.ensures inputs level c.args.rest.now (bind r later) c.args.into.now.items
     (ends-bind c.in-Err.stop r later (subst (Ends c.in-Err.stop) (sym same) (ends-bind c.in-Err.stop start next (c.in-Err.ensures inputs level))))
 
-pub gather_range-returns-in-Ok-Err : goal.gather_range-returns-in-Ok-Err
-gather_range-returns-in-Ok-Err t c = λ inputs level.
+pub gather_range-returns-in-Ok : goal.gather_range-returns-in-Ok
+gather_range-returns-in-Ok t c = λ inputs level.
     let p = c.args.self.now in
     let ts = c.args.arguments.now in
     let v = view c.args.value.now in
@@ -908,19 +873,21 @@ pub give_numbers-returns-in-Err : goal.give_numbers-returns-in-Err
 give_numbers-returns-in-Err t c = λ inputs level.
     let later : Item → Run Item = rest_run inputs level c.args.rest.now in
     simp (to_z-of_z, c.ranges.first, c.ranges.end) at (c.loop-value.invariant inputs level (Err c.in-Err.stop) []
-    (stops_first (made inputs level c.args.rest.now) c.in-Err.stop c.loop-value.into.items _ _ (plain (view c.in-Some.value)) later c.in-Some.ensures (c.in-Err.ensures inputs level)))
+    (stops_first (made inputs level c.args.rest.now) c.in-Err.stop c.loop-value.into.items _ _ (plain (view c.in-Some.value)) later c.in-Some.ensures
+    (subst (λ (x : Item). (q : Run Item) → Ends c.in-Err.stop (made inputs level c.args.rest.now c.loop-value.into.items (then_run (bind (one x) later) q))) c.plain-item.ensures (c.in-Err.ensures inputs level))))
 
 pub give_numbers-loop-value-preserved : goal.give_numbers-loop-value-preserved
 give_numbers-loop-value-preserved t c = λ inputs level a ys h.
     let later : Item → Run Item = rest_run inputs level c.args.rest.now in
     c.loop-value.invariant inputs level a ys
-    (gives_first (made inputs level c.args.rest.now) c.in-Ok.field-0 a c.loop-value.into.items c.give.new.into.items ys _ _ (plain (view c.in-Some.value)) later c.in-Some.ensures (c.in-Ok.ensures inputs level) h)
+    (gives_first (made inputs level c.args.rest.now) c.in-Ok.field-0 a c.loop-value.into.items c.give.new.into.items ys _ _ (plain (view c.in-Some.value)) later c.in-Some.ensures
+    (subst (λ (x : Item). Gathers (made inputs level c.args.rest.now) (Ok c.in-Ok.field-0) c.loop-value.into.items c.give.new.into.items (bind (one x) later)) c.plain-item.ensures (c.in-Ok.ensures inputs level)) h)
 
 -- ---- strings
 
-pub first_piece-returns-in_ok-text_in_format : goal.first_piece-returns-in_ok-text_in_format
+pub first_piece-returns : goal.first_piece-returns
 unfolding on_back on_inserted
-first_piece-returns-in_ok-text_in_format t c = λ inputs level.
+first_piece-returns t c = λ inputs level.
     let p = c.args.self.now in
     let f = name_of c.args.format.now in
     let x = plain (view c.args.value.now) in
@@ -975,9 +942,9 @@ entry-returns-in_ok-key-in-Named t c = λ inputs level.
     (subst (λ (s : List ℕ). Answers c.member.result (bind (run p inputs level (named c.in-Named.filter) (plain v)) (on_entry (entries_in p inputs level es v) made s))) c.in_ok-key-in-Named.ensures
     (c.member.ensures inputs level))
 
-pub computed-returns-in_ok-found : goal.computed-returns-in_ok-found
+pub computed-returns : goal.computed-returns
 unfolding on_entry_key
-computed-returns-in_ok-found t c = λ inputs level.
+computed-returns t c = λ inputs level.
     let p = c.args.self.now in
     let v = view c.args.value.now in
     let later : Members → Run Item = entries_in p inputs level (named_entries c.args.later.now) v in
@@ -997,9 +964,9 @@ computed-returns-in_err-found t c = λ inputs level.
     stops c.from_residual.result c.in_err-found.field-0.0 _ c.from_residual.ensures.1
     (ends-bind c.in_err-found.field-0.0 (run p inputs level (named c.args.key.now) (plain v)) (on_entry_key filter later (members_in c.args.made)) (c.in_err-found.ensures inputs level))
 
-pub member-returns-in_ok-longer : goal.member-returns-in_ok-longer
+pub member-returns : goal.member-returns
 unfolding on_entry
-member-returns-in_ok-longer t c = λ inputs level.
+member-returns t c = λ inputs level.
     let p = c.args.self.now in
     let v = view c.args.value.now in
     let later : Members → Run Item = entries_in p inputs level (named_entries c.args.later.now) v in
@@ -1052,8 +1019,8 @@ fold-returns t c = λ inputs level.
     (folded p inputs level n u held (then_run (bind (source (plain v)) one) none)) c.in_ok-keep.ensures refl))
     (subst (λ (x : Item). Ends s (folded p inputs level n u held (then_run (bind (source x) one) none))) input (c.in-Err.ensures inputs level none))
 
-pub gather_source-returns-in_ok-copy : goal.gather_source-returns-in_ok-copy
-gather_source-returns-in_ok-copy t c =
+pub gather_source-returns : goal.gather_source-returns
+gather_source-returns t c =
     gathers_all c.args.self.now (named c.args.source.now) (view c.args.value.now) c.args.most c.gather.result c.args.into.now.items c.gather.new.into.items (item_of c.plain-input.result)
     (c.plain-input.ensures ∙ ap plain c.in_ok-copy.ensures) c.requires c.gather.ensures
 
@@ -1078,7 +1045,7 @@ change_reduce-returns-in-Whole-clause-runs t c = λ inputs level.
     subst (λ q. Changed c.change_fold.result (view c.change_fold.new.value) (run p inputs level (reduce (named c.args.source.now) q (named c.args.start.now) (named c.args.update.now)) x))
     (sym (ap named_as_pattern c.in-Whole.is ∙ named-Whole c.in-Whole.name))
     (subst (λ s. Changed c.change_fold.result (view c.change_fold.new.value) (run p inputs level (reduce (named c.args.source.now) (whole (text_of c.in-Whole.name)) s (named c.args.update.now)) x))
-    (sym (ap named c.in-Identity.is))
+    (sym (ap named c.in-Identity.is ∙ named-Identity))
     (changed-bind c.change_fold.result (view c.change_fold.new.value) (one x) x (reduced (on_state (meaning p.depth (named c.args.update.now)) level) sources.items sources.ending)
     refl (c.change_fold.ensures.runs inputs level)))
 
@@ -1115,7 +1082,7 @@ turn-returns-in-Err t c = λ inputs level.
     let q = c.args.context.now in
     let x = plain (view c.args.value.now) in
     let goes : Item → Item → Run Item = turn q inputs level (text_of c.args.name.now) (named c.args.update.now) in
-    turned (Err c.in-Err.stop) goes x c.args.states.now.items []
+    turned {A = Unit {0}} (Err c.in-Err.stop) goes x c.args.states.now.items []
     (λ go. subst (λ (z : Item). Ends c.in-Err.stop (next_state z (goes x z) go)) (sym c.in-Some.ensures) (c.in-Err.ensures.runs inputs level go))
 
 -- ---- updates

@@ -147,8 +147,11 @@ decreases-change_builtin l = 16 * l.self.now.fuel + 10
 abbrev pub decreases-change_native : goal.decreases-change_native
 decreases-change_native l = 16 * l.self.now.fuel + 3
 
-abbrev pub decreases-change_to_path : goal.decreases-change_to_path
-decreases-change_to_path l = 16 * l.self.now.fuel + 9
+abbrev pub decreases-get_path : goal.decreases-get_path
+decreases-get_path l = 16 * l.self.now.fuel + 9
+
+abbrev pub decreases-get_native : goal.decreases-get_native
+decreases-get_native l = 16 * l.self.now.fuel + 3
 
 abbrev pub decreases-change_reduce : goal.decreases-change_reduce
 decreases-change_reduce l = 16 * l.self.now.fuel + 7
