@@ -821,7 +821,7 @@ gather_range-returns-in-Ok-get t c = λ inputs level.
     let low : Item = plain (view c.in-Ok.first) in
     let numbers : Item → Run Item = λ y. range_of (view c.in-Ok.first ∷ value_in y ∷ []) in
     subst (λ q. Gathers (made inputs level c.args.rest.now) c.give_range.result c.args.into.now.items c.give_range.new.into.items (bind q later))
-    (sym (same ∙ bind-known start low next (c.in-Ok.ensures inputs level) ∙ bind-known end (plain (view c.in-Ok-Ok.last)) numbers (c.in-Ok-Ok.ensures inputs level)))
+    (sym (same ∙ bind-known start low next (c.in-Ok.ensures inputs level) ∙ bind-known end (plain (view c.in-Ok-get.last)) numbers (c.in-Ok-get.ensures inputs level)))
     (c.give_range.ensures inputs level)
 
 pub gather_range-returns-in-len2 : goal.gather_range-returns-in-len2
@@ -838,7 +838,7 @@ gather_range-returns-in-len2 t c = λ inputs level.
     let next : Item → Run Item = λ x. bind end (λ y. range_of (value_in x ∷ value_in y ∷ [])) in
     let r : Run Item = builtin_in p inputs level meaning.range (trees_of (map named ts)) (plain v) in
     let same : r ≡ bind start next = two_chosen p inputs level range_of ts first second v two c.start-item.is c.end-item.is in
-    c.ended.ensures inputs level c.args.rest.now (bind r later) c.args.into.now.items
+    c.ended-in-Err.ensures inputs level c.args.rest.now (bind r later) c.args.into.now.items
     (ends-bind c.in-Err.stop r later (subst (Ends c.in-Err.stop) (sym same) (ends-bind c.in-Err.stop start next (c.in-Err.ensures inputs level))))
 
 pub gather_range-returns-in-Ok : goal.gather_range-returns-in-Ok
@@ -855,11 +855,11 @@ gather_range-returns-in-Ok t c = λ inputs level.
     let next : Item → Run Item = λ x. bind end (λ y. range_of (value_in x ∷ value_in y ∷ [])) in
     let r : Run Item = builtin_in p inputs level meaning.range (trees_of (map named ts)) (plain v) in
     let same : r ≡ bind start next = two_chosen p inputs level range_of ts first second v two c.start-item.is c.end-item.is in
-    let s = c.in-Ok-Err.stop in
+    let s = c.in-Err-get.stop in
     let low : Item = plain (view c.in-Ok.first) in
     let numbers : Item → Run Item = λ y. range_of (view c.in-Ok.first ∷ value_in y ∷ []) in
-    c.ended-in-Ok-Err.ensures inputs level c.args.rest.now (bind r later) c.args.into.now.items
-    (ends-bind s r later (subst (Ends s) (sym same) (ends-after s start low next (c.in-Ok.ensures inputs level) (ends-bind s end numbers (c.in-Ok-Err.ensures inputs level)))))
+    c.ended.ensures inputs level c.args.rest.now (bind r later) c.args.into.now.items
+    (ends-bind s r later (subst (Ends s) (sym same) (ends-after s start low next (c.in-Ok.ensures inputs level) (ends-bind s end numbers (c.in-Err-get.ensures inputs level)))))
 
 pub give_numbers-returns : goal.give_numbers-returns
 give_numbers-returns t c = λ inputs level.
@@ -900,7 +900,7 @@ first_piece-returns t c = λ inputs level.
     let made = c.in_ok-text_in_format.field-0 in
     text-bind c.inserted.result later back (on_back f front filter) (c.in_ok-back.ensures inputs level)
     (text-bind c.inserted.result filter (plain (view c.in_ok-found.found)) (on_inserted f front back) (c.in_ok-found.ensures inputs level)
-    (c.inserted.ensures front back expected (subst (λ (bs : List ℕ). Inserts (chars bs) expected back made) c.as_str-front.ensures.value (subst (λ (bs : List ℕ). Inserts (chars c.as_str-front.result.now) expected (chars bs) made) c.as_str-in_ok-found.ensures c.in_ok-text_in_format.ensures))))
+    (c.inserted.ensures front back expected (subst (λ (bs : List ℕ). Inserts (chars bs) expected back made) c.as_str-front.ensures.value (subst (λ (bs : List ℕ). Inserts (chars c.as_str-front.result.now) expected (chars bs) made) c.as_str.ensures c.in_ok-text_in_format.ensures))))
 
 pub first_piece-returns-in_err-back : goal.first_piece-returns-in_err-back
 first_piece-returns-in_err-back t c = λ inputs level.
