@@ -1,10 +1,8 @@
 -- What is claimed of a run that goes on with another filter.
-use Rattle.std.proofs.Common.{◌≡◌, ◌∙◌, ℕ, List, Bool, true, false, IsTrue, Result, Ok, Err, refl, sym, ap, subst}
+use Rattle.std.proofs.Common.{◌≡◌, ◌∙◌, ℕ, List, Bool, true, false, Result, Ok, Err, refl, sym, ap, subst}
 use Rattle.std.specs.Result.{IsErrAnd}
-use Rattle.jv_meaning.specs.Value.{Value, null, boolean, number, string, array, object}
+use Rattle.jv_meaning.specs.Value.{Value, boolean}
 use Rattle.jv_data.specs.declared.values.Val.{Val}
-use Rattle.jq_ast.specs.Constants.{is_text}
-use Rattle.jq_ast.specs.Leaves.{characters}
 use Rattle.jq_natives.specs.Answers.{is_true}
 use Rattle.jq_meaning.specs.Continuations.{truth, on_conjunct, on_disjunct, on_test, on_error, on_source, in_bindings}
 use Rattle.jq_tree.specs.Tree.{Name}
@@ -77,15 +75,6 @@ goes-changed (Ok d) w r h = h
 goes-changed (Err s) w r h = h
 
 -- ---- keys
-
--- a text is the string of its characters
-pub text_key : (v : Value) → IsTrue (is_text v) → v ≡ string (characters v)
-text_key null t = absurd (cc)
-text_key (boolean b) t = absurd (cc)
-text_key (number n) t = absurd (cc)
-text_key (string s) t = refl
-text_key (array vs) t = absurd (cc)
-text_key (object ms) t = absurd (cc)
 
 -- ---- conditions
 

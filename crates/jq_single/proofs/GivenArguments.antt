@@ -10,7 +10,7 @@ use Rattle.jq_meaning.specs.Builtins.{each_choice, native_run, plain_native}
 use Rattle.jq_meaning.specs.Meaning.{arguments_with, below}
 use Rattle.jq_meaning.specs.Runs.{Run, Item, plain, value_in, bind}
 use Rattle.jq_single.specs.declared.contexts.Context.{Context}
-use Rattle.jq_single.specs.private.Parts.{native_in, run}
+use Rattle.jq_single.specs.private.Parts.{run}
 use Rattle.jq_single.specs.private.Scopes.{scope_env}
 
 -- without a path `getpath` is like the others
@@ -30,9 +30,3 @@ two_chosen p inputs level g (a ∷ b ∷ []) t u v e h k =
     ap (λ z. bind (first z) (λ x. bind (first b) (λ y. g (value_in x ∷ value_in y ∷ [])))) (sym h)
     ∙ ap (λ z. bind (first t) (λ x. bind (first z) (λ y. g (value_in x ∷ value_in y ∷ [])))) (sym k)
 two_chosen p inputs level g (a ∷ b ∷ c ∷ ts) t u v e h k = absurd (omega (arith, e))
-
-pub two_given : (p : Context) (inputs : Run Value) (level : ℕ) (f : Native) (ts : List ast.Tree) (t u : ast.Tree) (v : Value) → length ts ≡ 2
-    → t ≡ get_or ts 0 t → u ≡ get_or ts 1 u
-    → native_in p inputs level f (trees_of (map named ts)) v
-    ≡ bind (run p inputs level (named t) (plain v)) (λ x. bind (run p inputs level (named u) (plain v)) (λ y. plain_native f v (value_in x ∷ value_in y ∷ [])))
-two_given p inputs level f ts t u v e h k = two_chosen p inputs level (plain_native f v) ts t u v e h k

@@ -9,15 +9,15 @@ use Rattle.jv_meaning.specs.Text.{text_of}
 use Rattle.jv_value.specs.Index.{slice_key}
 use Rattle.jv_data.specs.View.{view}
 use Rattle.jv_data.specs.declared.values.Val.{Val}
-use Rattle.jq_ast.specs.Leaves.{key_of, characters, operator_of}
+use Rattle.jq_ast.specs.Leaves.{key_of, operator_of}
 use Rattle.jq_ast.specs.Named.{name_of, named, named_as_pattern, named_entry}
 use Rattle.jq_ast.proofs.shared.Forms.{named-Call, named-PreludeCall, named-Object, named-Text, named-Whole}
-use Rattle.jq_tree.specs.Tree.{Entry, Tree, call, prelude_call, bind_as, more_entries, object, reduce, text, trees_of, whole}
+use Rattle.jq_tree.specs.Tree.{Entry, Tree, bind_as, more_entries, object, reduce, text, trees_of, whole}
 use Rattle.jq_operations.specs.Language.{meaning_of}
 use Rattle.jq_machine.specs.Operations.{path_item}
 use Rattle.jq_meaning.specs.Builtins.{builtin_named, plain_native, range_of}
 use Rattle.jq_meaning.specs.Builtins as meaning
-use Rattle.jq_meaning.specs.Env.{bound, find_callee, find_in_prelude, find_value, no_callee, value_of, with_arguments}
+use Rattle.jq_meaning.specs.Env.{bound, find_callee, find_in_prelude, find_value, no_callee, value_of}
 use Rattle.jq_meaning.specs.Steps.{each_part}
 use Rattle.jv_arith.specs.Arith.{add_of}
 use Rattle.jq_natives.specs.PathNatives.{getpath_native_of}
@@ -35,13 +35,13 @@ use Rattle.jq_state.specs.Items.{item_of}
 use Rattle.jq_state.proofs.shared.Items.{absent, value_of_item}
 use Rattle.jq_single.specs.private.Making.{entries_in}
 use Rattle.jq_single.specs.private.Around.{Around}
-use Rattle.jq_single.specs.private.States.{first_of, second_of, state}
+use Rattle.jq_single.specs.private.States.{first_of, second_of}
 use Rattle.jq_shapes.specs.Turn as shape
 use Rattle.jq_single.specs.private.UpdateTurns.{PutsFirst, PutsSecond}
 use Rattle.jq_single.specs.private.UpdateTurns as updates
 use Rattle.jq_single.specs.private.Parts.{Answers, builtin_in, run}
 use Rattle.jq_single.specs.Single.{Changed, Ends}
-use Rattle.jq_single.proofs.Binding.{bind-known, ends-bind, ends-after, answers-bind, changed-bind, changed_holds, changed_fails, changed-stops, goes-changed, keeps-stops, leaves_same, stops, untold, text_key, and_goes, and_stops, or_goes, or_stops, truth_of, test_holds, test_fails, caught, with_variable, text-bind, text-stops}
+use Rattle.jq_single.proofs.Binding.{bind-known, ends-bind, ends-after, answers-bind, changed-bind, changed_holds, changed_fails, changed-stops, goes-changed, keeps-stops, leaves_same, stops, untold, and_goes, and_stops, or_goes, or_stops, truth_of, test_holds, test_fails, caught, with_variable, text-bind, text-stops}
 use Rattle.jq_single.specs.declared.rests.Rest.{Rest}
 use Rattle.jq_single.proofs.Gathered.{gathers-none, gathers-then, gathers-fail, gathers_all, gives_first, stops_first, stops-then, gathered_list, ends_gathered, bound_rest, picks_holds, picks_fails}
 use Rattle.jq_single.proofs.Folded.{fold_value, turned, fold_ends, single_fold}
@@ -49,7 +49,7 @@ use Rattle.jq_single.proofs.Outcomes.{getpath_keys, setpath_keys, put_turn, keep
 use Rattle.jq_single.proofs.Updated.{finish-run, update_once, put_once, delete_once, raise_once}
 use Rattle.jq_single.proofs.Located.{path_given, path_of_builtin, paths-rest}
 use Rattle.jq_single.proofs.Bodies.{body_runs, builtin_runs, closure_runs, function_runs, named-Identity, prelude_runs}
-use Rattle.jq_single.proofs.GivenArguments.{native_plain, two_chosen, two_given}
+use Rattle.jq_single.proofs.GivenArguments.{native_plain, two_chosen}
 use Rattle.jq_single.proofs.contexts.Context.+single.Goals as goal
 
 -- ---- forms
