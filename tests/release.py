@@ -261,7 +261,7 @@ def the_build_goes_from_the_bottom_up(program):
 
 
 def the_longest_chain_goes_first(program):
-    """A crate that begins the longest chain has two jobs, also where one lane is left, and the others are nicer. Two lanes are not shared so."""
+    """The crate that begins the longest chain has two jobs, also if one lane is left, and the others run at niceness 10. Two lanes are not shared so."""
     with tempfile.TemporaryDirectory() as folder:
         top = pathlib.Path(folder)
         put_crates(top, "a:\nb: a\nc: a\nd: c\ne: d\nf: a\njql: e b f\n")

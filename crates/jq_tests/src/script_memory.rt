@@ -65,8 +65,8 @@ fn shown_again<'a>(
     Ok(output)
 }
 
-// The answers to a script in which one line may be refused for want of memory: those where it is accepted, and those where it is
-// not. Then the output, after it was accepted and after it was not.
+// A script with one edit, move or filter. Of each pair the first is what comes if that line is accepted, and the second if memory
+// runs out for it: the answers to the script, and then the session's output.
 #[derive(Clone, Copy)]
 struct Row {
     script: &'static str,

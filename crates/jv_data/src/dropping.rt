@@ -7,7 +7,6 @@ use std::mem;
 // How many levels of a value may be dropped by recursion.
 const NEAR: usize = 16;
 
-// The functions that a drop calls are not inlined, so that the drop of a number takes a few instructions.
 impl Val {
     // The first part of a container, if this is the only reference to its parts.
     fn first_part(&mut self) -> Option<&mut Val> {
@@ -34,6 +33,7 @@ impl Val {
     }
 }
 
+// What a drop calls is not inlined, so that the drop of a number stays short.
 #[inline(never)]
 pub(crate) fn items_may_be_deep(items: &Array<Val>) -> bool {
     match items.if_only() {
