@@ -2,7 +2,6 @@
 use Rattle.std.proofs.Common.{◌≡◌, ◌∙◌, ℕ, ◌<◌, Bool, true, false, ◌&&◌, if◌then◌else◌, nat_eq, List, [], ◌∷◌, refl, arith}
 use Rattle.std.specs.Prelude.{bytes_eq}
 use Rattle.std.proofs.lemmas.Bool.Decides.{nat_tests}
-use Rattle.jv_meaning.specs.Value.{Value}
 use Rattle.jq_tree.specs.Tree.{Name, Trees, no_trees, more_trees}
 use Rattle.jq_meaning.specs.Env.{Env, Callee, bound, closure, find_callee, find_in_prelude, find_value, found_closure, with_arguments}
 

@@ -1,6 +1,5 @@
 // Calls of one output, and those whose output replaces their input.
 ghost use Rattle.std.specs.Prelude.{◌≡◌, map};
-ghost use Rattle.jv_meaning.specs.Text.{text_of};
 ghost use Rattle.jv_meaning.specs.Value.{Value};
 ghost use Rattle.jv_data.specs.View.{view};
 ghost use Rattle.jq_ast.specs.Named.{name_of, named};
@@ -9,12 +8,11 @@ ghost use Rattle.jq_tree.specs.Tree as form;
 ghost use Rattle.jq_operations.specs.Language.{meaning_of};
 ghost use Rattle.jq_meaning.specs.Builtins.{plain_native};
 ghost use Rattle.jq_meaning.specs.Builtins as meaning;
-ghost use Rattle.jq_meaning.specs.Env.{with_arguments};
 ghost use Rattle.jq_meaning.specs.Runs.{Run};
 ghost use Rattle.jq_single.specs.Single.{Changed, Keeps};
 ghost use Rattle.jq_single.specs.private.Parts.{ChangesBelow, ChangesByBuiltin, ChangesByNative, ChangesTo, RunsBelow, RunsBuiltin, RunsTo};
 ghost use Rattle.jq_single.specs.private.Natives.{RunsNative};
-ghost use Rattle.jq_single.specs.private.Scopes.{scope_env};
+ghost use Rattle.jq_single.specs.private.Scopes.{body_env, scope_env};
 
 use crate::contexts::Context;
 use crate::finding::{Found, callee_of, prelude_of};
@@ -232,7 +230,7 @@ pub(crate) fn scope_of_call<'s>(
     arguments: &'s Vec<Tree>,
     caller: &'s Scope<'s>,
 ) -> Scope<'s>
-    ensures { (inputs : Run Value) → scope_env inputs result ≡ with_arguments (map text_of function.now.parameters.items) (trees_of (map named arguments.now.items)) (scope_env inputs caller.now) (scope_env inputs own.now) }
+    ensures { (inputs : Run Value) → scope_env inputs result ≡ body_env function.now arguments.now.items (scope_env inputs caller.now) (scope_env inputs own.now) }
 {
     if function.parameters.is_empty() {
         *own

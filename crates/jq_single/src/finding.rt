@@ -1,16 +1,13 @@
 // What a name is bound to in a scope.
-ghost use Rattle.std.specs.Prelude.{◌≡◌, IfOk, MatchOption, map};
-ghost use Rattle.jv_meaning.specs.Text.{text_of};
+ghost use Rattle.std.specs.Prelude.{◌≡◌, IfOk};
 ghost use Rattle.jv_meaning.specs.Value.{Value};
 ghost use Rattle.jv_data.specs.View.{view};
-ghost use Rattle.jq_ast.specs.Named.{name_of, named};
-ghost use Rattle.jq_tree.specs.Tree.{trees_of};
-ghost use Rattle.jq_meaning.specs.Env.{Env, with_arguments};
+ghost use Rattle.jq_ast.specs.Named.{name_of};
 ghost use Rattle.jq_meaning.specs.Env as meaning;
 ghost use Rattle.jq_meaning.specs.Runs.{Run};
 ghost use Rattle.jq_state.specs.Environments.{count_of, envs_of};
 ghost use Rattle.jq_single.specs.private.Scopes.{scope_env};
-ghost use Rattle.jq_single.specs.private.Finds.{FindsArgument, found_in};
+ghost use Rattle.jq_single.specs.private.Finds.{FindsBound, found_in};
 ghost use Rattle.jq_operations.specs.Callees.{CalleeFits, callee_in};
 
 use crate::scopes::{Outside, Scope};
@@ -66,7 +63,7 @@ fn argument_of<'s>(
     name: &Name,
     found: Option<&'s Tree>,
 ) -> Option<&'s Tree>
-    ensures { (caller base own : Env) → FindsArgument (name_of name.now) found.entry caller base own → FindsArgument (name_of name.now) result caller base (with_arguments (map text_of parameters.now) (trees_of (map named arguments.now)) caller own) }
+    ensures { FindsBound (name_of name.now) parameters.now arguments.now found.entry result }
 {
     match parameters {
         [parameter, later @ ..] => match arguments {

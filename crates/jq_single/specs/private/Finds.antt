@@ -1,12 +1,14 @@
 -- What a call finds in a scope.
-use Rattle.std.specs.Prelude.{◌≡◌, Option, MatchOption}
+use Rattle.std.specs.Prelude.{◌≡◌, List, map, Option, MatchOption, String}
 use Rattle.std.specs.Borrow.{Bor}
+use Rattle.std.specs.declared.alloc.Global.{Global}
+use Rattle.jv_meaning.specs.Text.{text_of}
 use Rattle.jv_meaning.specs.Value.{Value}
 use Rattle.jq_ast.specs.Named.{named}
 use Rattle.jq_ast.specs.declared.tree.Tree.{Tree}
-use Rattle.jq_tree.specs.Tree.{Name}
+use Rattle.jq_tree.specs.Tree.{Name, trees_of}
 use Rattle.jq_operations.specs.Callees as callees
-use Rattle.jq_meaning.specs.Env.{Env, find_callee, found_closure, no_callee}
+use Rattle.jq_meaning.specs.Env.{Env, find_callee, found_closure, no_callee, with_arguments}
 use Rattle.jq_meaning.specs.Env as meaning
 use Rattle.jq_meaning.specs.Runs.{Run}
 use Rattle.jq_single.specs.declared.finding.Found.{Found}
@@ -22,3 +24,8 @@ found_in inputs found.Nothing = no_callee
 abbrev pub FindsArgument : Name → Option (Bor Tree) → (caller base e : Env) → Type 0
 FindsArgument n found caller base e =
     MatchOption found (find_callee n 0 e ≡ find_callee n 0 base) (λ t. find_callee n 0 e ≡ found_closure (named t.now) caller)
+
+-- Parameters that are bound to arguments lead from what was found before to what is found then.
+abbrev pub FindsBound : Name → List (String Global) → List Tree → (before later : Option (Bor Tree)) → Type 0
+FindsBound n ps ts before later =
+    (caller base own : Env) → FindsArgument n before caller base own → FindsArgument n later caller base (with_arguments (map text_of ps) (trees_of (map named ts)) caller own)

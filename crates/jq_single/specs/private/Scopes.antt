@@ -4,6 +4,8 @@ use Rattle.jv_meaning.specs.Text.{text_of}
 use Rattle.jv_meaning.specs.Value.{Value}
 use Rattle.jv_data.specs.View.{view}
 use Rattle.jq_ast.specs.Named.{named}
+use Rattle.jq_ast.specs.declared.tree.Function.{Function}
+use Rattle.jq_ast.specs.declared.tree.Tree.{Tree}
 use Rattle.jq_tree.specs.Tree.{trees_of}
 use Rattle.jq_meaning.specs.Env.{Env, bound, with_arguments}
 use Rattle.jq_meaning.specs.Env as env
@@ -13,9 +15,12 @@ use Rattle.jq_state.specs.Nodes.{env_at}
 use Rattle.jq_single.specs.declared.scopes.Scope.{Scope}
 use Rattle.jq_single.specs.declared.scopes.Scope.TheVariants as scope
 
+-- The environment of a function's body: its own, with the parameters bound to the arguments of the caller.
+abbrev pub body_env : Function Tree → List Tree → (caller own : Env) → Env
+body_env f ts caller own = with_arguments (map text_of f.parameters.items) (trees_of (map named ts)) caller own
+
 abbrev pub scope_env : Run Value → Scope → Env
 scope_env inputs (scope.Run o) = env_at (envs_of inputs o.nodes.now) o.env
 scope_env inputs (scope.Value' p outer name v) = bound (env.value_of (text_of name.now) (view v.now)) (scope_env inputs outer)
 scope_env inputs (scope.Function' p outer f) = bound (env.function (text_of f.now.name) (map text_of f.now.parameters.items) (named f.now.body)) (scope_env inputs outer)
-scope_env inputs (scope.Call' p own f ts q caller) =
-    with_arguments (map text_of f.now.parameters.items) (trees_of (map named ts.now.items)) (scope_env inputs caller) (scope_env inputs own)
+scope_env inputs (scope.Call' p own f ts q caller) = body_env f.now ts.now.items (scope_env inputs caller) (scope_env inputs own)

@@ -2,7 +2,7 @@ use Rattle.std.proofs.Common.{◌≡◌, ◌∙◌, map, ap, sym, refl, arith}
 use Rattle.jv_meaning.specs.Text.{text_of}
 use Rattle.jq_ast.specs.Named.{name_of, named}
 use Rattle.jq_tree.specs.Tree.{trees_of}
-use Rattle.jq_meaning.specs.Env.{Env, Callee, find_callee, found_closure, with_arguments}
+use Rattle.jq_meaning.specs.Env.{Env, Callee, find_callee, with_arguments}
 use Rattle.jq_single.specs.private.Scopes.{scope_env}
 use Rattle.jq_single.proofs.Passed.{callee_past}
 use Rattle.jq_single.proofs.finding.+callee_of.Goals as goal

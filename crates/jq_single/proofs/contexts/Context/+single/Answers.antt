@@ -9,15 +9,15 @@ use Rattle.jv_meaning.specs.Text.{text_of}
 use Rattle.jv_value.specs.Index.{slice_key}
 use Rattle.jv_data.specs.View.{view}
 use Rattle.jv_data.specs.declared.values.Val.{Val}
-use Rattle.jq_ast.specs.Leaves.{key_of, characters, operator_of}
+use Rattle.jq_ast.specs.Leaves.{key_of, operator_of}
 use Rattle.jq_ast.specs.Named.{name_of, named, named_as_pattern, named_entry}
 use Rattle.jq_ast.proofs.shared.Forms.{named-Call, named-PreludeCall, named-Object, named-Text, named-Whole}
-use Rattle.jq_tree.specs.Tree.{Entry, Tree, call, prelude_call, bind_as, more_entries, object, reduce, text, trees_of, whole}
+use Rattle.jq_tree.specs.Tree.{Entry, Tree, bind_as, more_entries, object, reduce, text, trees_of, whole}
 use Rattle.jq_operations.specs.Language.{meaning_of}
 use Rattle.jq_machine.specs.Operations.{path_item}
 use Rattle.jq_meaning.specs.Builtins.{builtin_named, plain_native, range_of}
 use Rattle.jq_meaning.specs.Builtins as meaning
-use Rattle.jq_meaning.specs.Env.{bound, find_callee, find_in_prelude, find_value, no_callee, value_of, with_arguments}
+use Rattle.jq_meaning.specs.Env.{bound, find_callee, find_in_prelude, find_value, no_callee, value_of}
 use Rattle.jq_meaning.specs.Steps.{each_part}
 use Rattle.jv_arith.specs.Arith.{add_of}
 use Rattle.jq_natives.specs.PathNatives.{getpath_native_of}
@@ -35,7 +35,7 @@ use Rattle.jq_state.specs.Items.{item_of}
 use Rattle.jq_state.proofs.shared.Items.{absent, value_of_item}
 use Rattle.jq_single.specs.private.Making.{entries_in}
 use Rattle.jq_single.specs.private.Around.{Around}
-use Rattle.jq_single.specs.private.States.{first_of, second_of, state}
+use Rattle.jq_single.specs.private.States.{first_of, second_of}
 use Rattle.jq_shapes.specs.Turn as shape
 use Rattle.jq_single.specs.private.UpdateTurns.{PutsFirst, PutsSecond}
 use Rattle.jq_single.specs.private.UpdateTurns as updates
