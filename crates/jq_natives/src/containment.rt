@@ -12,9 +12,8 @@ ghost use Rattle.jq_natives.specs.Answers.{is_same};
 ghost use Rattle.jq_natives.specs.Containment.{contained_in, contains_of, is_within, items_contained, members_contained};
 ghost use Rattle.jq_natives.specs.private.Searches.{after, found_by, leads_to};
 
-use jv_data::{Fail, Object, Val, kind, order, raise_kinds};
+use jv_data::{Fail, Iter, Object, Val, kind, order, raise_kinds};
 use std::alloc::{AllocError, Global};
-use std::collections::btree_map::Iter;
 
 // What is left to find in a container.
 #[derive(Drop)]
@@ -24,7 +23,7 @@ enum Search<'a> {
     // An item in one of the items that were not tried for it, and each of the items after it in one of the last.
     Item(&'a Val, &'a [Val], &'a [Val], &'a [Val]),
     // Each of the members in the member of the same key.
-    Members(Iter<'a, String, Val>, &'a Object<Val>),
+    Members(Iter<'a, Val>, &'a Object<Val>),
 }
 
 // What a search does next.
@@ -174,7 +173,7 @@ fn first_container<'a>(part: &'a Val, wholes: &'a [Val]) -> Result<(Search<'a>, 
     Err(false)
 }
 
-fn next_member<'a>(parts: Iter<'a, String, Val>, wholes: &'a Object<Val>) -> Step<'a>
+fn next_member<'a>(parts: Iter<'a, Val>, wholes: &'a Object<Val>) -> Step<'a>
     ensures { leads_to result ≡ members_contained (members_view parts.entry) (members_in wholes.now) }
 {
     let mut rest = parts;

@@ -9,9 +9,8 @@ ghost use Rattle.jv_data.specs.View.{members_view, view};
 ghost use Rattle.jv_arith.specs.Objects.{union, deep_union, united};
 ghost use Rattle.jv_arith.specs.private.Uniting.{after, leads_to, unite_all};
 
-use jv_data::{Object, Val};
+use jv_data::{Iter, Object, Val};
 use std::alloc::{AllocError, Global};
-use std::collections::btree_map::Iter;
 
 /// Puts the members of the right into the left object, in place if that is not shared.
 pub(crate) fn put_all(left: &mut Object<Val>, right: &Object<Val>) -> Result<(), AllocError>
@@ -29,7 +28,7 @@ struct Open<'a> {
     members: Object<Val>,
     key: String,
     // The members of the right that are not united yet.
-    rest: Iter<'a, String, Val>,
+    rest: Iter<'a, Val>,
 }
 
 // What a union does next.
@@ -132,7 +131,7 @@ fn resumed<'a>(outer: Open<'a>, inner: Object<Val>) -> Result<Step<'a>, AllocErr
 }
 
 // Puts members until two objects are to be united.
-fn next_step<'a>(left: Object<Val>, right: Iter<'a, String, Val>) -> Result<Step<'a>, AllocError>
+fn next_step<'a>(left: Object<Val>, right: Iter<'a, Val>) -> Result<Step<'a>, AllocError>
     ensures { IfOk result (λ step. leads_to step ≡ unite_all (members_in left) (members_view right.entry)) }
 {
     let mut members = left;

@@ -1,8 +1,11 @@
 pub mod shared
 pub mod Views
 pub mod Utf8
+pub mod Names
 pub mod Shares
 pub mod Places
+pub mod Members
+pub mod Drafts
 pub mod Messages
 pub mod Depths
 pub mod Pending

@@ -3,7 +3,9 @@ use Rattle.std.proofs.Common.{Result, Ok, Err, OnErr, ◌≡◌, ◌⊎◌, inl,
 use Rattle.std.specs.Vec.{vec_len}
 use Rattle.std.specs.List.{AllZip}
 use Rattle.jv_data.proofs.Views.{Entry}
+use Rattle.jv_data.specs.Shared.{entries_held}
 use Rattle.jv_data.specs.View.{view, members_view}
+use Rattle.jv_data.specs.declared.containers.members.Members.{Members}
 use Rattle.jv_data.specs.declared.values.Val.{Val}
 
 abbrev pub IsCopy : Val → Val → Type 0
@@ -26,6 +28,10 @@ copied_members [] [] z = refl
 copied_members [] (f ∷ fs) z = absurd z
 copied_members (e ∷ es) [] z = absurd z
 copied_members (e ∷ es) (f ∷ fs) z = rw (z.0.0, z.0.1, copied_members es fs z.1) refl
+
+-- the members themselves, or a clone of them
+pub same_held : (m n : Members Val) → (n ≡ m) ⊎ (members_view (entries_held n) ≡ members_view (entries_held m)) → members_view (entries_held n) ≡ members_view (entries_held m)
+same_held m n h = elim h [ inl e ↦ ap (λ o. members_view (entries_held o)) e | inr z ↦ z ]
 
 pub same_members : (m n : BTreeMap (String Global) Val) → (n ≡ m) ⊎ AllZip IsEntryCopy m.entries n.entries → members_view n.entries ≡ members_view m.entries
 same_members m n h = elim h [ inl e ↦ ap (λ o. members_view o.entries) e | inr z ↦ copied_members m.entries n.entries z ]

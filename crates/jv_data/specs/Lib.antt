@@ -3,4 +3,5 @@ pub mod Shared
 pub mod View
 pub mod Held
 pub mod Fails
+pub mod Drafts
 pub mod private

@@ -1,7 +1,10 @@
 -- The contents of a shared string, array or object.
 use Rattle.std.specs.Prelude.{ℕ, List, String, string_bytes}
+use Rattle.std.specs.List.{zip}
 use Rattle.std.specs.declared.alloc.Global.{Global}
 use Rattle.jv_data.specs.declared.containers.arrays.Array.{Array}
+use Rattle.jv_data.specs.declared.containers.members.Members.{Members}
+use Rattle.jv_data.specs.declared.containers.members.Members.TheVariants.{Few, Many}
 use Rattle.jv_data.specs.declared.containers.objects.Object.{Object}
 use Rattle.jv_data.specs.declared.containers.texts.SharedText.{SharedText}
 
@@ -15,5 +18,10 @@ bytes_in t = string_bytes (string_in t)
 abbrev pub items_in : {X : Type 0} → Array X → List X
 items_in a = a.items.value.items
 
+-- each name with the value at the same index, or the entries of a map
+abbrev pub entries_held : {X : Type 0} → Members X → List (String Global × X)
+entries_held (Few names values) = zip names.value.texts.items values.items
+entries_held (Many map) = map.entries
+
 abbrev pub entries_in : {X : Type 0} → Object X → List (String Global × X)
-entries_in o = o.members.value.entries
+entries_in o = entries_held o.members.value

@@ -1,7 +1,6 @@
 // What the drop of a value does: it takes no memory, and little of the stack however deep the value is.
 use crate::Val;
-use crate::containers::{Array, Object};
-use std::collections::BTreeMap;
+use crate::containers::{Array, Members, Object};
 use std::mem;
 
 // How many levels of a value may be dropped by recursion.
@@ -12,10 +11,7 @@ impl Val {
     fn first_part(&mut self) -> Option<&mut Val> {
         match self {
             Val::List(items) => items.only()?.first_mut(),
-            Val::Table(members) => match members.only()?.first_entry() {
-                Some(entry) => Some(entry.into_mut()),
-                None => None,
-            },
+            Val::Table(members) => members.only()?.first_mut(),
             _ => None,
         }
     }
@@ -24,10 +20,7 @@ impl Val {
     fn take_last(&mut self) -> Option<Val> {
         match self {
             Val::List(items) => items.only()?.pop(),
-            Val::Table(members) => match members.only()?.pop_last() {
-                Some((_, member)) => Some(member),
-                None => None,
-            },
+            Val::Table(members) => members.only()?.pop_last(),
             _ => None,
         }
     }
@@ -87,13 +80,18 @@ fn may_be_deep(items: &[Val], levels: usize) -> bool {
 }
 
 #[cycle(nesting)]
-fn may_lead_deep(members: &BTreeMap<String, Val>, levels: usize) -> bool {
-    for member in members.values() {
-        if leads_deep(member, levels) {
-            return true;
+fn may_lead_deep(members: &Members<Val>, levels: usize) -> bool {
+    match members {
+        Members::Few(_, values) => may_be_deep(values.as_slice(), levels),
+        Members::Many(map) => {
+            for member in map.values() {
+                if leads_deep(member, levels) {
+                    return true;
+                }
+            }
+            false
         }
     }
-    false
 }
 
 // Inlined, so that only an array or an object costs a call.
@@ -117,12 +115,7 @@ fn leads_deep(value: &Val, levels: usize) -> bool {
 pub(crate) fn take_items_apart(items: Array<Val>) {
     match items.into_last() {
         None => {}
-        Some(mut items) => {
-            while let Some(item) = items.pop() {
-                take_apart(item);
-            }
-            items.destroy_empty()
-        }
+        Some(items) => take_all_apart(items),
     }
 }
 
@@ -130,13 +123,21 @@ pub(crate) fn take_items_apart(items: Array<Val>) {
 pub(crate) fn take_members_apart(members: Object<Val>) {
     match members.into_last() {
         None => {}
-        Some(mut members) => {
-            while let Some((_, member)) = members.pop_last() {
+        Some(Members::Few(_, values)) => take_all_apart(values),
+        Some(Members::Many(mut map)) => {
+            while let Some((_, member)) = map.pop_last() {
                 take_apart(member);
             }
-            members.destroy_empty()
+            map.destroy_empty()
         }
     }
+}
+
+fn take_all_apart(mut values: Vec<Val>) {
+    while let Some(value) = values.pop() {
+        take_apart(value);
+    }
+    values.destroy_empty()
 }
 
 // Drops a value of any depth. What is left of the containers above the next part hangs in that part, in the place of the
@@ -190,11 +191,17 @@ pub(crate) fn discard_items(items: Array<Val>) {
 pub(crate) fn discard_members(members: Object<Val>) {
     match members.into_last() {
         None => {}
-        Some(mut members) => {
-            while let Some((_, member)) = members.pop_last() {
+        Some(Members::Few(_, mut values)) => {
+            while let Some(value) = values.pop() {
+                value.discard();
+            }
+            values.destroy_empty()
+        }
+        Some(Members::Many(mut map)) => {
+            while let Some((_, member)) = map.pop_last() {
                 member.discard();
             }
-            members.destroy_empty()
+            map.destroy_empty()
         }
     }
 }

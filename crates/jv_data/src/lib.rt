@@ -19,7 +19,7 @@ mod pairs;
 mod raising;
 mod values;
 
-pub use containers::{Array, Object, SharedText};
+pub use containers::{Array, Draft, Iter, KnownNames, Object, Place, SharedText};
 pub use copying::copies;
 pub use failures::{Fail, NoMemory};
 pub use kinds::Kind;

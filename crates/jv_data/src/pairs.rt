@@ -6,17 +6,16 @@ ghost use Rattle.jv_meaning.specs.Value.{compare, compare_items, compare_members
 ghost use Rattle.jv_data.specs.View.{view, items_view, members_view};
 ghost use Rattle.jv_data.specs.private.Pairs.{parts_order};
 
-use crate::Val;
 use crate::ordering::{order_keys, rank};
+use crate::{Iter, Val};
 use std::alloc::Global;
 use std::cmp::Ordering;
-use std::collections::btree_map::Iter;
 
 // The parts of two arrays, or of two objects with the same keys, that are left to compare.
 #[derive(Drop)]
 pub(crate) enum Pair<'a> {
     Items(&'a [Val], &'a [Val]),
-    Members(Iter<'a, String, Val>, Iter<'a, String, Val>),
+    Members(Iter<'a, Val>, Iter<'a, Val>),
 }
 
 // The order of the parts, or `None` if the list of what is open could not grow.
@@ -101,8 +100,8 @@ fn next_items<'a>(
 }
 
 fn next_members<'a>(
-    left: Iter<'a, String, Val>,
-    right: Iter<'a, String, Val>,
+    left: Iter<'a, Val>,
+    right: Iter<'a, Val>,
 ) -> Result<(&'a Val, &'a Val, Pair<'a>), Ordering>
     ensures { MatchResult result
         (λ p. compare_members (members_view left.entry) (members_view right.entry) ≡ ordering_then (compare (view p.0.now) (view p.1.now)) (parts_order p.2))

@@ -15,4 +15,6 @@ mod deep_memory;
 #[cfg(test)]
 mod memory;
 #[cfg(test)]
+mod objects;
+#[cfg(test)]
 mod reading;

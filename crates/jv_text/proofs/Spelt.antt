@@ -6,10 +6,11 @@ use Rattle.json.specs.Token.{Token}
 use Rattle.json.specs.Print.{print}
 use Rattle.serde_json.proofs.Texts.{print-outline}
 use Rattle.jv_data.proofs.shared.Levels.{view-Table, view-Text}
-use Rattle.jv_data.specs.Shared.{string_in, entries_in}
+use Rattle.jv_data.specs.Held.{members_in}
+use Rattle.jv_data.specs.Shared.{string_in}
 use Rattle.jv_meaning.specs.Value.{Value}
 use Rattle.jv_meaning.specs.Text.{text_of}
-use Rattle.jv_data.specs.View.{view, members_view}
+use Rattle.jv_data.specs.View.{view}
 use Rattle.jv_data.specs.declared.containers.objects.Object.{Object}
 use Rattle.jv_data.specs.declared.containers.texts.SharedText.{SharedText}
 use Rattle.jv_data.specs.declared.values.Val.{Val}
@@ -25,7 +26,7 @@ spelt s = encodes-chars (string_bytes s) (IsUtf8-string_bytes s)
 pub tokens_of-Text : (t : SharedText) → tokens_of (view (val.Text t)) ≡ Token.string (string_bytes (string_in t)) ∷ []
 tokens_of-Text t = ap tokens_of (view-Text t) ∙ ap (λ s. Token.string s ∷ []) (spelt (string_in t))
 
-pub tokens_of-Table : (o : Object Val) → tokens_of (view (val.Table o)) ≡ Token.begin_object ∷ tokens_of_members (members_view (entries_in o))
+pub tokens_of-Table : (o : Object Val) → tokens_of (view (val.Table o)) ≡ Token.begin_object ∷ tokens_of_members (members_in o)
 tokens_of-Table o = ap tokens_of (view-Table o)
 
 pub bytes_or-Text : (other : List ℕ) (t : SharedText) → bytes_or other (view (val.Text t)) ≡ string_bytes (string_in t)

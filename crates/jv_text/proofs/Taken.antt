@@ -1,6 +1,5 @@
 -- The grammar's loops, one turn at a time, if each text that was read has a value.
-use Rattle.std.proofs.Common.{◌≡◌, ℕ, ℤ, ◌-◌, ◌<◌, ◌≤◌, Bool, List, [], ◌∷◌, ◌++◌, length, Option, Some, None, option_map, String, Global, string_bytes, string_cmp, Ordering, Less, Equal, Greater, refl, sym, ap, subst, ◌∙◌}
-use Rattle.std.specs.BTreeMap.{insert_entry}
+use Rattle.std.proofs.Common.{◌≡◌, ℕ, ℤ, ◌-◌, ◌<◌, ◌≤◌, Bool, List, [], ◌∷◌, ◌++◌, length, Option, Some, None, option_map, Ordering, Less, Equal, Greater, refl, sym, ap, subst, ◌∙◌}
 use Rattle.std.specs.Ordering.{match_ordering}
 use Rattle.std.specs.Prelude.{option_and_then}
 use Rattle.std.specs.Str.{chars, IsUtf8}
@@ -14,8 +13,10 @@ use Rattle.serde_json.specs.Data.{Data, Num, put}
 use Rattle.serde_json.specs.Find.{as_i64}
 use Rattle.serde_json.specs.Read.{of_json, of_items, of_members, number_of, converted}
 use Rattle.jv_text.proofs.Turns.{converted-array, converted-object, item_read, items_over, member_read, members_over, none_before, whole_read}
-use Rattle.jv_meaning.specs.Value.{Value, null, boolean, number, string, array, object, Items, Members}
-use Rattle.jv_data.specs.View.{view, items_view, members_view}
+use Rattle.jv_meaning.specs.Members.{put as put_member}
+use Rattle.jv_meaning.specs.Value.{Value, null, boolean, number, string, array, object, Items, Members, no_members, member, text_cmp}
+use Rattle.jv_data.proofs.shared.Texts.{utf8-cmp}
+use Rattle.jv_data.specs.View.{view, items_view}
 use Rattle.jv_data.specs.declared.values.Val.{Val}
 use Rattle.jv_text.specs.Json.{value_of, items_of as read_items, members_of as read_members}
 use Rattle.jv_text.specs.private.PlainTokens.{IsPlainNumber}
@@ -129,51 +130,52 @@ taken_object depth ts rest r v ms some first read e =
     }
 
 -- the members of the data have the same keys, and mean the values
-abbrev pub MembersMean : json_data.Members → List Entry → Type 0
-MembersMean json_data.no_members [] = Unit {0}
-MembersMean json_data.no_members (e ∷ es) = ⊥
-MembersMean (json_data.member k d ms) [] = ⊥
-MembersMean (json_data.member k d ms) (e ∷ es) = (k ≡ string_bytes e.0) × (value_of d ≡ Some (view e.1)) × MembersMean ms es
+abbrev pub MembersMean : json_data.Members → Members → Type 0
+MembersMean json_data.no_members no_members = Unit {0}
+MembersMean json_data.no_members (member l w ns) = ⊥
+MembersMean (json_data.member k d ms) no_members = ⊥
+MembersMean (json_data.member k d ms) (member l w ns) = IsUtf8 k × (l ≡ chars k) × (value_of d ≡ Some w) × MembersMean ms ns
 
-mean_by : (o : Ordering) (a b c : json_data.Members) (es fs gs : List Entry) → MembersMean a es → MembersMean b fs → MembersMean c gs → MembersMean (match_ordering o a b c) (match_ordering o es fs gs)
+mean_by : (o : Ordering) (a b c : json_data.Members) (es fs gs : Members) → MembersMean a es → MembersMean b fs → MembersMean c gs → MembersMean (match_ordering o a b c) (match_ordering o es fs gs)
 mean_by Less a b c es fs gs h i j = h
 mean_by Equal a b c es fs gs h i j = i
 mean_by Greater a b c es fs gs h i j = j
 
-mean_put : (ms : json_data.Members) (es : List Entry) (key : String Global) (d : Data) (v : Val) → MembersMean ms es → value_of d ≡ Some (view v) → MembersMean (put (string_bytes key) d ms) (insert_entry string_cmp es key v)
-mean_put json_data.no_members [] key d v h e = (refl, e, tt)
-mean_put json_data.no_members (x ∷ es) key d v h e = absurd h
-mean_put (json_data.member k c ms) [] key d v h e = absurd h
-mean_put (json_data.member k c ms) (x ∷ es) key d v h e = rw h.0 (mean_by (string_cmp key x.0) _ _ _ _ _ _ (refl, e, (refl, h.1, h.2)) (refl, e, h.2) (refl, h.1, mean_put ms es key d v h.2 e))
+mean_put : (ms : json_data.Members) (ns : Members) (key : List ℕ) (u : IsUtf8 key) (d : Data) (v : Value) → MembersMean ms ns → value_of d ≡ Some v → MembersMean (put key d ms) (put_member (chars key) v ns)
+mean_put json_data.no_members no_members key u d v h e = (u, refl, e, tt)
+mean_put json_data.no_members (member l w ns) key u d v h e = absurd h
+mean_put (json_data.member k c ms) no_members key u d v h e = absurd h
+mean_put (json_data.member k c ms) (member l w ns) key u d v h e =
+    rw (h.1, utf8-cmp key k u h.0)
+    (mean_by (text_cmp (chars key) (chars k)) _ _ _ _ _ _ (u, refl, e, (h.0, refl, h.2, h.3)) (h.0, refl, e, h.3) (h.0, refl, h.2, mean_put ms ns key u d v h.3 e))
 
-all_members_mean : (ms : json_data.Members) (es : List Entry) → MembersMean ms es → read_members ms ≡ Some (members_view es)
-all_members_mean json_data.no_members [] h = refl
-all_members_mean json_data.no_members (e ∷ es) h = absurd h
-all_members_mean (json_data.member k d ms) [] h = absurd h
-all_members_mean (json_data.member k d ms) (e ∷ es) h = rw (h.1, all_members_mean ms es h.2, h.0) refl
+all_members_mean : (ms : json_data.Members) (ns : Members) → MembersMean ms ns → read_members ms ≡ Some ns
+all_members_mean json_data.no_members no_members h = refl
+all_members_mean json_data.no_members (member l w ns) h = absurd h
+all_members_mean (json_data.member k d ms) no_members h = absurd h
+all_members_mean (json_data.member k d ms) (member l w ns) h = rw (h.2, all_members_mean ms ns h.3, h.1) refl
 
--- the members es were read from the members `whole`, and `left` remain
-pub record MembersGoOn (whole : Option (json.Members × List Token)) (es : List Entry) (left : Option (json.Members × List Token)) : Type 0 where
+-- the members ns were read from the members `whole`, and `left` remain
+pub record MembersGoOn (whole : Option (json.Members × List Token)) (ns : Members) (left : Option (json.Members × List Token)) : Type 0 where
   pub tree : json_data.Members
-  pub mean : MembersMean tree es
+  pub mean : MembersMean tree ns
   pub goes : converted (λ ms. of_members ms json_data.no_members) whole ≡ converted (λ ms. of_members ms tree) left
 
-pub members_begin : (whole : Option (json.Members × List Token)) (es : List Entry) → es ≡ [] → MembersGoOn whole es whole
-members_begin whole es e = rw e (record { tree = json_data.no_members; mean = tt; goes = refl })
+pub members_begin : (whole : Option (json.Members × List Token)) (ns : Members) → ns ≡ no_members → MembersGoOn whole ns whole
+members_begin whole ns e = rw e (record { tree = json_data.no_members; mean = tt; goes = refl })
 
-pub members_turn : (p : Parse json.Json) (n : ℕ) (k : List ℕ) (ts s r : List Token) (whole : Option (json.Members × List Token)) (es fs : List Entry) (key : String Global) (v : Val) → MembersGoOn whole es (json.members p n ts) → 0 < n
-    → read_key ts ≡ Some (Some k, s) → string_bytes key ≡ k → IsValueRead (p s) (view v) r → fs ≡ insert_entry string_cmp es key v → MembersGoOn whole fs (json.members p (n - 1) r)
-members_turn p n k ts s r whole es fs key v g some named copied read e =
+pub members_turn : (p : Parse json.Json) (n : ℕ) (k : List ℕ) (u : IsUtf8 k) (ts s r : List Token) (whole : Option (json.Members × List Token)) (ms ns : Members) (v : Value) → MembersGoOn whole ms (json.members p n ts) → 0 < n
+    → read_key ts ≡ Some (Some k, s) → IsValueRead (p s) v r → ns ≡ put_member (chars k) v ms → MembersGoOn whole ns (json.members p (n - 1) r)
+members_turn p n k u ts s r whole ms ns v g some named read e =
     rw e (record {
-      tree = put (string_bytes key) read.tree g.tree;
-      mean = mean_put g.tree es key read.tree v g.mean read.means;
-      goes = g.goes ∙ member_read p g.tree n k ts s r read.tree some named read.reads ∙ ap (λ name. converted (λ ms. of_members ms (put name read.tree g.tree)) (json.members p (n - 1) r)) (sym copied);
+      tree = put k read.tree g.tree;
+      mean = mean_put g.tree ms k u read.tree v g.mean read.means;
+      goes = g.goes ∙ member_read p g.tree n k ts s r read.tree some named read.reads;
     })
 
-pub members_done : (p : Parse json.Json) (n : ℕ) (ts r : List Token) (whole : Option (json.Members × List Token)) (es : List Entry) → MembersGoOn whole es (json.members p n ts) → length ts ≤ n → read_key ts ≡ Some (None, r)
-    → AreMembersRead whole (members_view es) r
-members_done p n ts r whole es g enough e =
-    record { tree = g.tree; reads = g.goes ∙ members_over p g.tree n ts r enough e; means = all_members_mean g.tree es g.mean }
+pub members_done : (p : Parse json.Json) (n : ℕ) (ts r : List Token) (whole : Option (json.Members × List Token)) (ns : Members) → MembersGoOn whole ns (json.members p n ts) → length ts ≤ n → read_key ts ≡ Some (None, r) → AreMembersRead whole ns r
+members_done p n ts r whole ns g enough e =
+    record { tree = g.tree; reads = g.goes ∙ members_over p g.tree n ts r enough e; means = all_members_mean g.tree ns g.mean }
 
 -- ---- the whole text
 

@@ -10,7 +10,7 @@ ghost use Rattle.jv_text.specs.declared.cutting.Cutter.{Cutter as SpecCutter};
 
 use crate::faults::{Fault, fault_at};
 use crate::texts::read_at;
-use json::Scratch;
+use crate::tokens::Buffers;
 use jv_cut::Splitter;
 use jv_data::{NoMemory, Val};
 use std::alloc::Global;
@@ -22,8 +22,8 @@ pub struct Cutter {
     alloc: Global,
     splitter: Splitter,
     fault: Option<Fault>,
-    // The buffer that each text is read in.
-    scratch: Scratch,
+    // The buffer that each text is read in, and the names of earlier objects.
+    buffers: Buffers,
 }
 
 impl Cutter {
@@ -41,7 +41,7 @@ impl Cutter {
             alloc,
             splitter: Splitter::new(alloc),
             fault: None,
-            scratch: Scratch::new(alloc),
+            buffers: Buffers::new(alloc),
         }
     }
 
@@ -109,7 +109,7 @@ impl Cutter {
             self.alloc,
             self.splitter.text(len),
             self.splitter.place(),
-            &mut self.scratch,
+            &mut self.buffers,
         ) {
             Ok(value) => {
                 self.splitter.take(len);

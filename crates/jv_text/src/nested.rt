@@ -8,15 +8,14 @@ ghost use Rattle.jv_text.specs.private.PrintedTokens.{open_tokens, rest_tokens};
 use crate::printing::write_number;
 use crate::sinks::Tokens;
 use json::Token;
-use jv_data::Val;
+use jv_data::{Iter, Val};
 use std::alloc::{AllocError, Global};
-use std::collections::btree_map::Iter;
 
 // The rest of an array or an object whose opening bracket is written.
 #[derive(Drop)]
 pub(crate) enum Open<'a> {
     Array(&'a [Val]),
-    Object(Iter<'a, String, Val>),
+    Object(Iter<'a, Val>),
 }
 
 pub(crate) fn write_in_list<W: Tokens>(

@@ -8,8 +8,8 @@ ghost use Rattle.jv_text.specs.Json.{value_of, items_of, members_of};
 ghost use Rattle.jv_text.specs.Plain.{plain_value};
 ghost use Rattle.jv_text.specs.private.Unreadable.{Reads};
 
-use crate::tokens::read_tokens;
-use json::{Invalid, Scratch};
+use crate::tokens::{Buffers, read_tokens};
+use json::Invalid;
 use jv_data::{Array, Object, Val};
 use serde_json::{Category, Map, Number, Value as Json};
 use std::alloc::{AllocError, AllocFailed, Global};
@@ -55,10 +55,10 @@ impl From<Invalid> for Unread {
 
 /// The value of a JSON text whose numbers are all written as whole numbers of 64 bits, with neither a fraction nor an
 /// exponent, and not as `-0`.
-pub(crate) fn read(alloc: Global, text: &[u8], scratch: &mut Scratch) -> Result<Val, Unread>
+pub(crate) fn read(alloc: Global, text: &[u8], buffers: &mut Buffers) -> Result<Val, Unread>
     ensures { Reads view result (plain_value text.now) }
 {
-    match read_tokens(alloc, text, scratch) {
+    match read_tokens(alloc, text, buffers) {
         Err(Unread::NoValue) => read_data(alloc, text),
         read => read,
     }

@@ -7,8 +7,7 @@ ghost use Rattle.jv_text.specs.Reading.{Gives, reading, or_malformed, text_of_cu
 use crate::faults::{Fault, fault_at};
 use crate::numbers::whole_numbers;
 use crate::reading::{Unread, read};
-use crate::tokens::read_tokens;
-use json::Scratch;
+use crate::tokens::{Buffers, read_tokens};
 use jv_cut::first_text;
 use jv_data::Val;
 use std::alloc::Global;
@@ -24,7 +23,7 @@ pub fn read_text(alloc: Global, bytes: &[u8]) -> Result<Val, Fault>
                 alloc,
                 &bytes[start..end],
                 start as u64,
-                &mut Scratch::new(alloc),
+                &mut Buffers::new(alloc),
             )?;
             match first_text(&bytes[end..]) {
                 Ok(None) => Ok(value),
@@ -48,32 +47,32 @@ pub(crate) fn read_at(
     alloc: Global,
     text: &[u8],
     at: u64,
-    scratch: &mut Scratch,
+    buffers: &mut Buffers,
 ) -> Result<Val, Fault>
     ensures { Gives result (reading at text.now) }
 {
-    match read_tokens(alloc, text, scratch) {
+    match read_tokens(alloc, text, buffers) {
         Ok(value) => Ok(value),
-        Err(Unread::NoValue) => read_other(alloc, text, at, scratch),
+        Err(Unread::NoValue) => read_other(alloc, text, at, buffers),
         Err(Unread::NoMemory) => Err(Fault::NoMemory),
     }
 }
 
 // The same for a text with a number in another form, and for one with no value.
-fn read_other(alloc: Global, text: &[u8], at: u64, scratch: &mut Scratch) -> Result<Val, Fault>
+fn read_other(alloc: Global, text: &[u8], at: u64, buffers: &mut Buffers) -> Result<Val, Fault>
     ensures { Gives result (reading at text.now) }
 {
     match whole_numbers(alloc, text) {
-        Ok(whole) => read_whole(alloc, whole.as_slice(), at, scratch),
+        Ok(whole) => read_whole(alloc, whole.as_slice(), at, buffers),
         Err(Unread::NoValue) => Err(Fault::NotWhole { at }),
         Err(Unread::NoMemory) => Err(Fault::NoMemory),
     }
 }
 
-fn read_whole(alloc: Global, text: &[u8], at: u64, scratch: &mut Scratch) -> Result<Val, Fault>
+fn read_whole(alloc: Global, text: &[u8], at: u64, buffers: &mut Buffers) -> Result<Val, Fault>
     ensures { Gives result (or_malformed at (plain_value text.now)) }
 {
-    match read(alloc, text, scratch) {
+    match read(alloc, text, buffers) {
         Ok(value) => Ok(value),
         Err(Unread::NoValue) => Err(Fault::Malformed { at }),
         Err(Unread::NoMemory) => Err(Fault::NoMemory),

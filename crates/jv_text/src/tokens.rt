@@ -4,7 +4,8 @@ ghost use Rattle.serde_json.specs.Find.{as_i64};
 ghost use Rattle.serde_json.specs.Read.{number_of, number_from};
 ghost use Rattle.json.specs.Json.{value, items, members};
 ghost use Rattle.jv_meaning.specs.Value.{Value};
-ghost use Rattle.jv_data.specs.View.{view, items_view, members_view};
+ghost use Rattle.jv_data.specs.Held.{members_in};
+ghost use Rattle.jv_data.specs.View.{view, items_view};
 ghost use Rattle.jv_cut.specs.declared.nesting.Quote.TheVariants.{Outside};
 ghost use Rattle.jv_text.specs.Numbers.{run_text, whole_numbers};
 ghost use Rattle.jv_text.specs.Plain.{plain_value};
@@ -15,9 +16,8 @@ use crate::numbers::{has_minus, is_printed, short_number};
 use crate::reading::Unread;
 use fast_float::Numeral;
 use json::{Reader, Scratch, Token};
-use jv_data::{Array, Object, Val};
+use jv_data::{Array, Draft, KnownNames, Object, Val};
 use std::alloc::Global;
-use std::collections::BTreeMap;
 use std::str;
 
 // How many arrays and objects may be nested.
@@ -26,8 +26,24 @@ const MAX_NESTING: usize = 127;
 // The buffer of a text of at most this many bytes is kept for the texts after it.
 const KEPT_ROOM: usize = 1_048_576;
 
+/// What is kept from one text to the next: the buffer that each text is read in, and the names of objects.
+#[derive(Drop)]
+pub(crate) struct Buffers {
+    scratch: Scratch,
+    known: KnownNames,
+}
+
+impl Buffers {
+    pub(crate) fn new(alloc: Global) -> Buffers {
+        Buffers {
+            scratch: Scratch::new(alloc),
+            known: KnownNames::new(alloc),
+        }
+    }
+}
+
 /// The value of a text whose numbers are all in the form in which whole numbers are printed. It refuses other texts.
-pub(crate) fn read_tokens(alloc: Global, text: &[u8], scratch: &mut Scratch) -> Result<Val, Unread>
+pub(crate) fn read_tokens(alloc: Global, text: &[u8], buffers: &mut Buffers) -> Result<Val, Unread>
     ensures value { IfOk result (λ v. plain_value text.now ≡ Some (view v)) }
     ensures plain { OnOk result (whole_numbers Outside [] text.now ≡ Some text.now) }
 {
@@ -35,27 +51,32 @@ pub(crate) fn read_tokens(alloc: Global, text: &[u8], scratch: &mut Scratch) -> 
         return Err(Unread::NoValue);
     };
     if text.len() > KEPT_ROOM {
-        read_large(alloc, text)
+        read_large(alloc, text, &mut buffers.known)
     } else {
-        read_all(alloc, text, scratch)
+        read_all(alloc, text, &mut buffers.scratch, &mut buffers.known)
     }
 }
 
 // A function of its own, since a buffer is 16 KB, which each call of a function with one among its locals clears.
 #[inline(never)]
-fn read_large(alloc: Global, text: &str) -> Result<Val, Unread>
+fn read_large(alloc: Global, text: &str, known: &mut KnownNames) -> Result<Val, Unread>
     ensures value { IfOk result (λ v. plain_value text.now ≡ Some (view v)) }
     ensures plain { OnOk result (whole_numbers Outside [] text.now ≡ Some text.now) }
 {
-    read_all(alloc, text, &mut Scratch::new(alloc))
+    read_all(alloc, text, &mut Scratch::new(alloc), known)
 }
 
-fn read_all(alloc: Global, text: &str, scratch: &mut Scratch) -> Result<Val, Unread>
+fn read_all(
+    alloc: Global,
+    text: &str,
+    scratch: &mut Scratch,
+    known: &mut KnownNames,
+) -> Result<Val, Unread>
     ensures value { IfOk result (λ v. plain_value text.now ≡ Some (view v)) }
     ensures plain { OnOk result (whole_numbers Outside [] text.now ≡ Some text.now) }
 {
     let mut reader = Reader::new(text, scratch)?;
-    let value = read_value(alloc, &mut reader, MAX_NESTING)?;
+    let value = read_value(alloc, &mut reader, known, MAX_NESTING)?;
     if reader.next().is_some() {
         return Err(Unread::NoValue);
     }
@@ -65,7 +86,12 @@ fn read_all(alloc: Global, text: &str, scratch: &mut Scratch) -> Result<Val, Unr
 // Inlined into the loops over items and members, so that only an array or an object costs a call.
 #[cycle(taking)]
 #[inline(always)]
-fn read_value(alloc: Global, reader: &mut Reader<'_>, depth: usize) -> Result<Val, Unread>
+fn read_value(
+    alloc: Global,
+    reader: &mut Reader<'_>,
+    known: &mut KnownNames,
+    depth: usize,
+) -> Result<Val, Unread>
     ensures ok { IfOk result (λ v. IsValueRead (value depth reader.old) (view v) reader.new) }
     ensures shorter { OnOk result (length reader.new < length reader.old) }
     ensures plain { OnOk result (KeepsPlain reader.old reader.new) }
@@ -80,12 +106,12 @@ fn read_value(alloc: Global, reader: &mut Reader<'_>, depth: usize) -> Result<Va
         },
         Token::String(text) => Ok(Val::from_text(alloc, text)?),
         Token::BeginArray if depth > 0 => {
-            let items = read_items(alloc, reader, depth - 1)?;
+            let items = read_items(alloc, reader, known, depth - 1)?;
             Ok(Val::List(Array::from_vec(alloc, items)?))
         }
         Token::BeginObject if depth > 0 => {
-            let members = read_members(alloc, reader, depth - 1)?;
-            Ok(Val::Table(Object::from_map(alloc, members)?))
+            let members = read_members(alloc, reader, known, depth - 1)?;
+            Ok(Val::Table(members))
         }
         _ => Err(Unread::NoValue),
     }
@@ -94,37 +120,43 @@ fn read_value(alloc: Global, reader: &mut Reader<'_>, depth: usize) -> Result<Va
 // The items after the bracket that opens an array.
 #[cycle(taking)]
 #[inline(never)]
-fn read_items(alloc: Global, reader: &mut Reader<'_>, depth: usize) -> Result<Vec<Val>, Unread>
+fn read_items(
+    alloc: Global,
+    reader: &mut Reader<'_>,
+    known: &mut KnownNames,
+    depth: usize,
+) -> Result<Vec<Val>, Unread>
     ensures ok { IfOk result (λ v. AreItemsRead (items (value depth) (length reader.old) reader.old) (items_view v.items) reader.new) }
     ensures shorter { OnOk result (length reader.new < length reader.old) }
     ensures plain { OnOk result (KeepsPlain reader.old reader.new) }
 {
     let mut found = Vec::new(alloc);
     'items: while !reader.take_end_array() {
-        found.push(read_value(alloc, reader, depth)?)?;
+        found.push(read_value(alloc, reader, known, depth)?)?;
     }
     Ok(found)
 }
 
-// The members after the brace that opens an object.
+// The members after the brace that opens an object. Objects of one text share their lists of names.
 #[cycle(taking)]
 #[inline(never)]
 fn read_members(
     alloc: Global,
     reader: &mut Reader<'_>,
+    known: &mut KnownNames,
     depth: usize,
-) -> Result<BTreeMap<String, Val>, Unread>
-    ensures ok { IfOk result (λ m. AreMembersRead (members (value depth) (length reader.old) reader.old) (members_view m.entries) reader.new) }
+) -> Result<Object<Val>, Unread>
+    ensures ok { IfOk result (λ o. AreMembersRead (members (value depth) (length reader.old) reader.old) (members_in o) reader.new) }
     ensures shorter { OnOk result (length reader.new < length reader.old) }
     ensures plain { OnOk result (KeepsPlain reader.old reader.new) }
 {
-    let mut found = BTreeMap::new(alloc);
+    let mut found = Draft::new();
     'members: while let Some(name) = reader.next_key()? {
-        let key = String::from_str(alloc, name)?;
-        let member = read_value(alloc, reader, depth)?;
-        drop(found.insert(key, member)?);
+        let place = found.place(alloc, name, known)?;
+        let member = read_value(alloc, reader, known, depth)?;
+        found.put(place, member)?;
     }
-    Ok(found)
+    Ok(found.finish(alloc, known)?)
 }
 
 // The value of a number in the form in which whole numbers are printed.

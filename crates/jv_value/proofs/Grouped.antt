@@ -1,5 +1,5 @@
 -- The groups with one more location, and with one group less.
-use Rattle.std.proofs.Common.{◌≡◌, ◌∙◌, List, [], ◌∷◌, ◌++◌, Bool, true, false, cond, if◌then◌else◌, Option, Some, None, String, Global, string_bytes, string_cmp, nat_cmp, ap, sym, refl, ℕ, unwrap_or}
+use Rattle.std.proofs.Common.{◌≡◌, ◌∙◌, List, [], ◌∷◌, ◌++◌, Bool, true, false, cond, if◌then◌else◌, Option, Some, None, String, Global, string_bytes, string_cmp, nat_cmp, ap, sym, subst, refl, ℕ, unwrap_or}
 use Rattle.std.proofs.lemmas.List.{append-nil}
 use Rattle.std.proofs.lemmas.Map.Text.{is_eq-slice_cmp}
 use Rattle.std.proofs.lemmas.Slice.Eq.{bytes_eq-Decides}
@@ -11,7 +11,11 @@ use Rattle.jv_meaning.proofs.Order.{compared, equal_from, is_equal, is_greater, 
 use Rattle.jv_meaning.specs.Members.{put}
 use Rattle.jv_meaning.specs.Value.{Value, object, Members, text_cmp}
 use Rattle.jv_meaning.specs.Text.{text_of}
+use Rattle.jv_data.proofs.shared.Levels.{members_held}
+use Rattle.jv_data.specs.Held.{members_in}
+use Rattle.jv_data.specs.Shared.{entries_in}
 use Rattle.jv_data.specs.View.{members_view}
+use Rattle.jv_data.specs.declared.containers.objects.Object.{Object}
 use Rattle.jv_data.specs.declared.values.Val.{Val}
 use Rattle.jv_value.specs.private.ItemGroups.{apart}
 use Rattle.jv_value.specs.DeletePaths.{following, members_left}
@@ -68,7 +72,7 @@ grouped_elsewhere groups qs q h a =
     }
 
 -- what remains of members depends on the locations in each
-pub members_same : (es : List (String Global × Val)) (ps qs : List Location) → ((s : String Global) → following (key (text_of s)) ps ≡ following (key (text_of s)) qs) → members_left ps (members_view es) ≡ members_left qs (members_view es)
+members_same : (es : List (String Global × Val)) (ps qs : List Location) → ((s : String Global) → following (key (text_of s)) ps ≡ following (key (text_of s)) qs) → members_left ps (members_view es) ≡ members_left qs (members_view es)
 members_same [] ps qs h = refl
 members_same (e ∷ es) ps qs h = rw (h e.0, members_same es ps qs h) refl
 
@@ -80,6 +84,14 @@ members_same_put (e ∷ es) k v ps qs h =
       | is_equal l ↦ rw (l, h e.0, members_same es ps qs h) refl
       | is_greater l ↦ rw (l, h e.0, members_same_put es k v ps qs h) refl
     ]
+
+-- the same of an object
+pub members_same_in : (o : Object Val) (ps qs : List Location) → ((s : String Global) → following (key (text_of s)) ps ≡ following (key (text_of s)) qs) → members_left ps (members_in o) ≡ members_left qs (members_in o)
+members_same_in o ps qs h = subst (λ ms. members_left ps ms ≡ members_left qs ms) (sym (members_held o)) (members_same (entries_in o) ps qs h)
+
+members_same_put_in : (o : Object Val) (k : String Global) (v : Value) (ps qs : List Location) → ((s : String Global) → following (key (text_of s)) ps ≡ following (key (text_of s)) qs)
+    → members_left ps (put (text_of k) v (members_in o)) ≡ members_left qs (put (text_of k) v (members_in o))
+members_same_put_in o k v ps qs h = subst (λ ms. members_left ps (put (text_of k) v ms) ≡ members_left qs (put (text_of k) v ms)) (sym (members_held o)) (members_same_put (entries_in o) k v ps qs h)
 
 following_after : (t u : List ℕ) (b : Bool) → is_eq (text_cmp u t) ≡ b → (ps : List Location) → following (key u) (after (key t) ps) ≡ (if b then ps else [])
 following_after t u true e [] = refl
@@ -116,11 +128,11 @@ group_taken_from old new k g ms ns w found u leave same law = λ qs h.
     λ s. others_at (is_eq (string_cmp k s)) t (text_of s) (get string_cmp old s) (get string_cmp new s) all qs (same_names k s) (u.0 s) (whole s) (h s) in
     ap object (same qs (apart (key t) all) others ∙ law all (whole k ∙ ap held_in found)) ∙ leave all whole
 
-pub group_taken : (old new : Groups) (k : String Global) (g : Group) (ms : Members) (w : Value) (es : List (String Global × Val)) → get string_cmp old k ≡ Some g → Updates string_cmp old new k None → GroupsLeave old ms w
-    → ((qs : List Location) → following (key (text_of k)) qs ≡ locations_in g.items → members_left (apart (key (text_of k)) qs) (members_view es) ≡ members_left qs ms) → GroupsLeave new (members_view es) w
-group_taken old new k g ms w es found u leave law = group_taken_from old new k g ms (members_view es) w found u leave (members_same es) law
+pub group_taken : (old new : Groups) (k : String Global) (g : Group) (ms : Members) (w : Value) (o : Object Val) → get string_cmp old k ≡ Some g → Updates string_cmp old new k None → GroupsLeave old ms w
+    → ((qs : List Location) → following (key (text_of k)) qs ≡ locations_in g.items → members_left (apart (key (text_of k)) qs) (members_in o) ≡ members_left qs ms) → GroupsLeave new (members_in o) w
+group_taken old new k g ms w o found u leave law = group_taken_from old new k g ms (members_in o) w found u leave (members_same_in o) law
 
 -- the same, where what is left of the member is put back
-pub group_put : (old new : Groups) (k : String Global) (g : Group) (ms : Members) (w v : Value) (es : List (String Global × Val)) → get string_cmp old k ≡ Some g → Updates string_cmp old new k None → GroupsLeave old ms w
-    → ((qs : List Location) → following (key (text_of k)) qs ≡ locations_in g.items → members_left (apart (key (text_of k)) qs) (put (text_of k) v (members_view es)) ≡ members_left qs ms) → GroupsLeave new (put (text_of k) v (members_view es)) w
-group_put old new k g ms w v es found u leave law = group_taken_from old new k g ms (put (text_of k) v (members_view es)) w found u leave (members_same_put es k v) law
+pub group_put : (old new : Groups) (k : String Global) (g : Group) (ms : Members) (w v : Value) (o : Object Val) → get string_cmp old k ≡ Some g → Updates string_cmp old new k None → GroupsLeave old ms w
+    → ((qs : List Location) → following (key (text_of k)) qs ≡ locations_in g.items → members_left (apart (key (text_of k)) qs) (put (text_of k) v (members_in o)) ≡ members_left qs ms) → GroupsLeave new (put (text_of k) v (members_in o)) w
+group_put old new k g ms w v o found u leave law = group_taken_from old new k g ms (put (text_of k) v (members_in o)) w found u leave (members_same_put_in o k v) law

@@ -1,6 +1,7 @@
 // Objects that several values share.
 ghost use Rattle.std.specs.Prelude.{◌≡◌, IfOk, IfSome, OnErr, OnOk, String, length, option_map};
 ghost use Rattle.std.specs.declared.alloc.Global.{Global};
+ghost use Rattle.std.specs.List.{zip};
 ghost use Rattle.std.specs.Str.{chars};
 ghost use Rattle.std.specs.Map.Iter.{ShowsInOrder, ShowsValuesInOrder, deref_pair};
 ghost use Rattle.jv_data.specs.Held.{members_in};
@@ -10,16 +11,19 @@ ghost use Rattle.jv_meaning.specs.Text.{text_of};
 ghost use Rattle.jv_meaning.specs.Value.{no_members};
 ghost use Rattle.jv_data.specs.View.{view, members_view};
 
+use super::iterating::Iter;
+use super::members::Members;
+use super::names::Names;
+use super::sharing::KnownNames;
 use crate::Val;
 use std::alloc::{AllocError, Global};
 use std::collections::BTreeMap;
-use std::collections::btree_map::Iter;
 use std::rc::Rc;
 
 /// Members with a reference count.
 #[derive(Drop)]
 pub struct Object<T> {
-    members: Rc<BTreeMap<String, T>>,
+    members: Rc<Members<T>>,
 }
 
 impl<T: Drop> Object<T> {
@@ -28,31 +32,37 @@ impl<T: Drop> Object<T> {
         ensures { IfOk result (λ o. entries_in o ≡ members.entries) }
     {
         Ok(Object {
-            members: Rc::new(alloc, members)?,
+            members: Rc::new(alloc, Members::Many(members))?,
         })
     }
+}
 
-    /// One more reference to the same members. It fails only if the reference count is at its maximum.
-    pub fn share(&self) -> Result<Object<T>, AllocError>
-        ensures { IfOk result (λ o. entries_in o ≡ entries_in self.now) }
+impl<T: Drop> Object<T> {
+    // The members whose names and values are at the same indices of the lists, with reference count 1.
+    pub(crate) fn from_lists(
+        alloc: Global,
+        names: Rc<Names>,
+        values: Vec<T>,
+    ) -> Result<Object<T>, AllocError>
+        ensures { IfOk result (λ o. entries_in o ≡ zip names.value.texts.items values.items) }
     {
         Ok(Object {
-            members: self.members.clone()?,
+            members: Rc::new(alloc, Members::Few(names, values))?,
         })
     }
 }
 
 impl<T> Object<T> {
     // The members, if this is the last reference to them. Otherwise there is one reference less.
-    pub(crate) fn into_last(self) -> Option<BTreeMap<String, T>>
-        ensures { IfSome result (λ m. m.entries ≡ entries_in self) }
+    pub(crate) fn into_last(self) -> Option<Members<T>>
+        ensures { IfSome result (λ m. m ≡ self.members.value) }
     {
         let Object { members } = self;
         Rc::into_inner(members)
     }
 
     // The members, if this is the only reference to them.
-    pub(crate) fn if_only(&self) -> Option<&BTreeMap<String, T>> {
+    pub(crate) fn if_only(&self) -> Option<&Members<T>> {
         if Rc::strong_count(&self.members) == 1 {
             Some(self.members.as_ref())
         } else {
@@ -61,7 +71,7 @@ impl<T> Object<T> {
     }
 
     // The same, to change them.
-    pub(crate) fn only(&mut self) -> Option<&mut BTreeMap<String, T>> {
+    pub(crate) fn only(&mut self) -> Option<&mut Members<T>> {
         Rc::get_mut(&mut self.members)
     }
 }
@@ -71,7 +81,19 @@ impl Object<Val> {
     pub fn new(alloc: Global) -> Result<Object<Val>, AllocError>
         ensures { IfOk result (λ o. members_in o ≡ no_members) }
     {
-        Object::from_map(alloc, BTreeMap::new(alloc))
+        Ok(Object {
+            members: Rc::new(alloc, Members::new(alloc)?)?,
+        })
+    }
+
+    /// One more reference to the same members. It fails only if the reference count is at its maximum.
+    pub fn share(&self) -> Result<Object<Val>, AllocError>
+        ensures entries { IfOk result (λ o. entries_in o ≡ entries_in self.now) }
+        ensures members { IfOk result (λ o. members_in o ≡ members_in self.now) }
+    {
+        Ok(Object {
+            members: self.members.clone()?,
+        })
     }
 
     /// The number of members. The clause `ordered` states what `laws::keys_rise` states.
@@ -90,7 +112,7 @@ impl Object<Val> {
     }
 
     /// The members in the order of their keys, which is that of their code points.
-    pub fn iter(&self) -> Iter<'_, String, Val>
+    pub fn iter(&self) -> Iter<'_, Val>
         ensures rest { result ≡ entries_in self.now }
         ensures runs { ShowsInOrder (deref_pair {K = String Global} {X = Val}) }
         ensures values_run { ShowsValuesInOrder (deref_pair {K = String Global} {X = Val}) }
@@ -105,8 +127,17 @@ impl Object<Val> {
         ensures ok { OnOk result (members_in self.new ≡ put (text_of key) (view value) (members_in self.old)) }
         ensures err { OnErr result (members_in self.new ≡ members_in self.old) }
     {
-        drop(Rc::make_mut(&mut self.members)?.insert(key, value)?);
-        Ok(())
+        Rc::make_mut(&mut self.members)?.insert(key, value)
+    }
+
+    /// Takes the list of names of an earlier object that has the same names, if it is known, and frees memory that no member
+    /// needs. It does nothing to an object with other references.
+    pub fn share_names(&mut self, known: &mut KnownNames)
+        ensures { members_in self.new ≡ members_in self.old }
+    {
+        if let Some(members) = Rc::get_mut(&mut self.members) {
+            members.share_names(known)
+        }
     }
 
     /// Removes a key and returns its value. Shared members are copied first.
@@ -115,6 +146,6 @@ impl Object<Val> {
         ensures left { OnOk result (members_in self.new ≡ without (chars key.now) (members_in self.old)) }
         ensures err { OnErr result (members_in self.new ≡ members_in self.old) }
     {
-        Ok(Rc::make_mut(&mut self.members)?.remove(key))
+        Rc::make_mut(&mut self.members)?.remove(key)
     }
 }

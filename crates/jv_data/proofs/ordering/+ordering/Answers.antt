@@ -1,21 +1,19 @@
-use Rattle.std.proofs.Common.{◌≡◌, ◌∙◌, rules}
-use Rattle.jv_meaning.specs.Value.{string, object}
-use Rattle.jv_data.specs.Shared.{string_in, entries_in}
+use Rattle.std.proofs.Common.{◌≡◌, ◌∙◌, ap, arith, rules}
+use Rattle.jv_meaning.specs.Value.{string}
+use Rattle.jv_data.specs.Shared.{string_in}
 use Rattle.jv_meaning.specs.Text.{text_of}
-use Rattle.jv_data.specs.View.{view, members_view}
+use Rattle.jv_data.specs.View.{view}
 use Rattle.jv_data.specs.declared.containers.texts.SharedText.{SharedText}
-use Rattle.jv_data.specs.declared.containers.objects.Object.{Object}
 use Rattle.jv_data.specs.declared.values.Val.{Val, the_lemmas}
 use Rattle.jv_data.specs.declared.values.Val as val
+use Rattle.jv_data.proofs.shared.Depths.{depth_held, depth_under}
+use Rattle.jv_data.proofs.shared.Levels.{view-Table}
 use Rattle.jv_data.proofs.Utf8.{chars-cmp}
 use Rattle.jv_data.proofs.Views.{first_decides}
 use Rattle.jv_data.proofs.ordering.+ordering.Goals as goal
 
 text_view : (t : SharedText) → view (val.Text t) ≡ string (text_of (string_in t))
 text_view t = search (rules, the_lemmas)
-
-table_view : (o : Object Val) → view (val.Table o) ≡ object (members_view (entries_in o))
-table_view o = search (rules, the_lemmas)
 
 pub order_near-returns-in-Text-Text : goal.order_near-returns-in-Text-Text
 order_near-returns-in-Text-Text t c =
@@ -24,10 +22,18 @@ order_near-returns-in-Text-Text t c =
 
 pub order_near-returns-in-Equal : goal.order_near-returns-in-Equal
 order_near-returns-in-Equal t c =
-    rw (c.in-Table-Table.is-0, c.in-Table-Table.is-1, table_view c.in-Table-Table.xs, table_view c.in-Table-Table.ys, ← c.order_keys.ensures, c.in-Equal.is)
+    rw (c.in-Table-Table.is-0, c.in-Table-Table.is-1, view-Table c.in-Table-Table.xs, view-Table c.in-Table-Table.ys, ← c.order_keys.ensures, c.in-Equal.is)
     c.order_members.ensures
 
 pub order_near-returns-in_default-order_keys : goal.order_near-returns-in_default-order_keys
 order_near-returns-in_default-order_keys t c =
-    rw (c.in-Table-Table.is-0, c.in-Table-Table.is-1, table_view c.in-Table-Table.xs, table_view c.in-Table-Table.ys, ← c.order_keys.ensures)
+    rw (c.in-Table-Table.is-0, c.in-Table-Table.is-1, view-Table c.in-Table-Table.xs, view-Table c.in-Table-Table.ys, ← c.order_keys.ensures)
     (first_decides c.order_keys.result _ c.in_default-order_keys.not-Equal)
+
+pub order_members-order_near-requires : goal.order_members-order_near-requires
+order_members-order_near-requires t c =
+    let measure = c.decreases in
+    let within = c.loop-member.invariant.1 in
+    let first = ap depth_under c.in-Some.ensures.steps in
+    let held = depth_held c.args.left.now.members.value in
+    (omega arith, tt)

@@ -1,6 +1,7 @@
-use Rattle.std.proofs.Common.{◌∙◌, [], ◌∷◌, ◌++◌, sym, ap, append_assoc, rules}
+use Rattle.std.proofs.Common.{◌∙◌, [], ◌∷◌, ◌++◌, sym, ap, append_assoc, arith, rules}
 use Rattle.std.proofs.lemmas.Result.{on_ok_weaker}
 use Rattle.json.specs.Token.{Token}
+use Rattle.jv_data.proofs.shared.Depths.{depth_held, depth_under}
 use Rattle.jv_data.specs.View.{view, members_view}
 use Rattle.jv_text.specs.Printed.{tokens_of}
 use Rattle.jv_text.specs.private.PrintedTokens.{tokens_of_members}
@@ -22,4 +23,13 @@ write_members-loop-key-preserved g t c =
     let joined = append_assoc (before ++ Token.key name ∷ []) value rest ∙ append_assoc before (Token.key name ∷ []) (value ++ rest) in
     let named = ap (λ n. before ++ Token.key n ∷ (value ++ rest)) (c.as_str.ensures.value ∙ sym (spelt c.in-Some.key.now)) in
     let left = ap (λ es. before ++ tokens_of_members (members_view es)) c.in-Some.ensures.steps in
-    (search rules, written ∙ joined ∙ named ∙ sym left ∙ c.loop-key.invariant.1)
+    let first = ap depth_under c.in-Some.ensures.steps in
+    (search rules, written ∙ joined ∙ named ∙ sym left ∙ c.loop-key.invariant.1, omega (arith, first, c.loop-key.invariant.2))
+
+pub write_members-write-requires : goal.write_members-write-requires
+write_members-write-requires g t c κs within =
+    let measure = c.decreases in
+    let first = ap depth_under c.in-Some.ensures.steps in
+    let inside = c.loop-key.invariant.2 in
+    let held = depth_held c.args.members.now.members.value in
+    (omega arith, within)

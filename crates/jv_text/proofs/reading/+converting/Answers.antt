@@ -1,12 +1,15 @@
-use Rattle.std.proofs.Common.{[], ◌∷◌, ◌++◌, map, option_map, refl, sym, ap, ◌∙◌, subst, Some, length, arith}
+use Rattle.std.proofs.Common.{rules, ◌≡◌, [], ◌∷◌, ◌++◌, map, option_map, refl, sym, ap, ◌∙◌, subst, Some, length, arith}
 use Rattle.std.proofs.lemmas.List.{map-append, nil_from_length}
 use Rattle.std.specs.List.Sorted.{IsStrictlySortedBy}
 use Rattle.std.specs.Map.{keys_of}
 use Rattle.std.specs.String.{string_cmp, string_cmp_total}
 use Rattle.std.specs.Vec.Iter.{into_iter_items}
+use Rattle.serde_json.specs.declared.value.Value.{the_lemmas}
 use Rattle.serde_json.specs.View.{view as data_view, items_view as data_items, members_view as data_members}
-use Rattle.jv_data.specs.View.{view}
-use Rattle.jv_text.specs.Json.{items_of, members_of}
+use Rattle.jv_data.proofs.shared.Levels.{members_held, view-Table}
+use Rattle.jv_data.specs.View.{view, members_view}
+use Rattle.jv_meaning.specs.Value.{object}
+use Rattle.jv_text.specs.Json.{value_of, items_of, members_of}
 use Rattle.jv_text.proofs.Fronts.{before_items, before_members, all_items, all_members, items_step, members_step, insert_entry_last, keys-push}
 use Rattle.jv_text.proofs.reading.+converting.Goals as goal
 
@@ -46,3 +49,10 @@ pub members_of-returns : goal.members_of-returns
 members_of-returns t c =
     let l = c.loop-key in
     sym l.invariant.1 ∙ ap (λ es. option_map (before_members l.values.entries) (members_of (data_members es))) c.in-None.ensures.steps.0 ∙ ap Some (all_members l.values.entries)
+
+pub value_of-returns-in_ok-from_map-in-Object : goal.value_of-returns-in_ok-from_map-in-Object
+value_of-returns-in_ok-from_map-in-Object t c =
+    let made = c.in_ok-from_map-in-Object in
+    let is = view-Table made.field-0 ∙ ap object (members_held made.field-0 ∙ ap members_view made.ensures) in
+    let whole : value_of (data_view c.args.json) ≡ option_map object (members_of (data_members c.in-Object.members.entries)) = rw c.in-Object.is (search (rules, the_lemmas)) in
+    whole ∙ ap (option_map object) c.in_ok-members_of-in-Object.ensures ∙ ap Some (sym is)

@@ -5,9 +5,12 @@ use Rattle.json.specs.Json.{after_end_array, read_key, value}
 use Rattle.json.specs.Reads.{token_of}
 use Rattle.json.proofs.Grammar.{read_key-shorter, read_key_is, closed_array}
 use Rattle.jv_data.proofs.shared.Levels.{view-Null, view-Bool, view-Num, view-List, view-Table}
+use Rattle.jv_meaning.specs.Members.{put}
 use Rattle.jv_meaning.specs.Value.{array, object}
+use Rattle.std.specs.Str.{chars}
 use Rattle.jv_data.specs.declared.values.Val.TheVariants.{Num}
-use Rattle.jv_data.specs.View.{view, items_view, members_view}
+use Rattle.jv_data.specs.Drafts.{drafted}
+use Rattle.jv_data.specs.View.{view, items_view}
 use Rattle.jv_text.proofs.Taken.{taken_null, taken_boolean, taken_string, taken_number, taken_array, items_begin, items_turn, items_done, taken_object, members_begin, members_turn, members_done}
 use Rattle.jv_text.proofs.TokenRuns.{took_none, took_first, took_both}
 use Rattle.jv_text.specs.private.PlainTokens.{KeepsPlain}
@@ -45,7 +48,7 @@ read_items-returns-clause-plain t c =
     took_both _ l.reader _ l.invariant.4 (took_first Token.end_array l.reader _ _ (closed_array l.reader _ closed) tt (took_none _ _ refl))
 
 pub read_members-members-init : goal.read_members-members-init
-read_members-members-init t c = (length c.args.reader.now, omega arith, members_begin _ _ c.new-found.ensures.empty, omega arith, took_none _ _ refl)
+read_members-members-init t c = (length c.args.reader.now, omega arith, members_begin _ _ c.new-found.ensures, omega arith, took_none _ _ refl)
 
 pub read_members-members-preserved : goal.read_members-members-preserved
 read_members-members-preserved t c =
@@ -60,18 +63,21 @@ read_members-members-preserved t c =
     let r = c.read_value.new.reader in
     let less = read_key-shorter l.reader (Some k) s named in
     let lesser = done.shorter in
-    let copied : string_bytes c.in_ok-key.key ≡ k = search rules in (
+    let put_there = c.in_ok-put.ensures k c.in_ok-place.ensures.utf8 c.in_ok-place.ensures.place ∙ ap (put (chars k) (view v)) c.in_ok-place.ensures.members in (
       n - 1,
       omega (arith, l.invariant.1),
-      members_turn p n k l.reader s r _ l.found.entries _ c.in_ok-key.key v l.invariant.2 (omega (arith, l.invariant.1)) named copied done.ok c.in_ok-insert.ensures.entries,
+      members_turn p n k c.in_ok-place.ensures.utf8 l.reader s r _ (drafted l.found) _ (view v) l.invariant.2 (omega (arith, l.invariant.1)) named done.ok put_there,
       omega (arith, l.invariant.3),
       took_both _ l.reader r l.invariant.4 (took_first (Token.key k) l.reader s r (read_key_is l.reader (Some k) s named) tt done.plain),
     )
 
+pub read_members-put-requires : goal.read_members-put-requires
+read_members-put-requires t c = (c.in-Some.name.now, c.in_ok-place.ensures.place)
+
 pub read_members-returns-clause-ok : goal.read_members-returns-clause-ok
 read_members-returns-clause-ok t c =
     let l = c.members in
-    members_done (value c.args.depth) l.invariant.0 l.reader c.next_key.new.self _ l.found.entries l.invariant.2 l.invariant.1 (grind arith)
+    rw c.in_ok-finish.ensures (members_done (value c.args.depth) l.invariant.0 l.reader c.next_key.new.self _ (drafted l.found) l.invariant.2 l.invariant.1 (grind arith))
 
 pub read_members-returns-clause-plain : goal.read_members-returns-clause-plain
 read_members-returns-clause-plain t c =
@@ -118,12 +124,12 @@ read_value-returns-in_ok-from_vec-in-BeginArray-clause-ok t c =
     let made = c.in_ok-from_vec-in-BeginArray in
     taken_array c.args.depth c.args.reader.now c.next.new.self c.read_items.new.reader _ _ (omega arith) is c.in_ok-items-in-BeginArray.ensures.ok (view-List made.field-0 ∙ ap (λ xs. array (items_view xs)) made.ensures)
 
-pub read_value-returns-in_ok-from_map-in-BeginObject-clause-ok : goal.read_value-returns-in_ok-from_map-in-BeginObject-clause-ok
-read_value-returns-in_ok-from_map-in-BeginObject-clause-ok t c =
+pub read_value-returns-in_ok-members-in-BeginObject-clause-ok : goal.read_value-returns-in_ok-members-in-BeginObject-clause-ok
+read_value-returns-in_ok-members-in-BeginObject-clause-ok t c =
     let first : c.args.reader.now ≡ token_of c.in_ok-token.token ∷ c.next.new.self = grind arith in
     let is : c.args.reader.now ≡ Token.begin_object ∷ c.next.new.self = grind (arith, first) in
-    let made = c.in_ok-from_map-in-BeginObject in
-    taken_object c.args.depth c.args.reader.now c.next.new.self c.read_members.new.reader _ _ (omega arith) is c.in_ok-members-in-BeginObject.ensures.ok (view-Table made.field-0 ∙ ap (λ es. object (members_view es)) made.ensures)
+    let made = c.in_ok-members-in-BeginObject in
+    taken_object c.args.depth c.args.reader.now c.next.new.self c.read_members.new.reader _ _ (omega arith) is made.ensures.ok (view-Table made.members)
 
 pub read_value-returns-in-Null-clause-plain : goal.read_value-returns-in-Null-clause-plain
 read_value-returns-in-Null-clause-plain t c =
@@ -149,8 +155,8 @@ read_value-returns-in_ok-from_vec-in-BeginArray-clause-plain t c =
     let is : c.args.reader.now ≡ Token.begin_array ∷ c.next.new.self = grind (arith, first) in
     took_first _ _ _ _ is tt (c.in_ok-items-in-BeginArray.ensures.plain)
 
-pub read_value-returns-in_ok-from_map-in-BeginObject-clause-plain : goal.read_value-returns-in_ok-from_map-in-BeginObject-clause-plain
-read_value-returns-in_ok-from_map-in-BeginObject-clause-plain t c =
+pub read_value-returns-in_ok-members-in-BeginObject-clause-plain : goal.read_value-returns-in_ok-members-in-BeginObject-clause-plain
+read_value-returns-in_ok-members-in-BeginObject-clause-plain t c =
     let first : c.args.reader.now ≡ token_of c.in_ok-token.token ∷ c.next.new.self = grind arith in
     let is : c.args.reader.now ≡ Token.begin_object ∷ c.next.new.self = grind (arith, first) in
     took_first _ _ _ _ is tt (c.in_ok-members-in-BeginObject.ensures.plain)

@@ -1,5 +1,6 @@
 use Rattle.std.proofs.Common.{ℕ, ◌+◌, ◌*◌, ◌≤◌, length}
 use Rattle.json.specs.Json.{items, members, value}
+use Rattle.jv_data.specs.Drafts.{drafted}
 use Rattle.jv_text.specs.private.PlainTokens.{KeepsPlain}
 use Rattle.jv_text.proofs.Taken.{ItemsGoOn, MembersGoOn}
 use Rattle.jv_text.proofs.tokens.+taking.Given as goal
@@ -26,7 +27,7 @@ decreases-read_items-items l = length l.reader
 abbrev pub invariant-read_members-members : goal.invariant-read_members-members
 invariant-read_members-members l =
     (n : ℕ) × (length l.reader ≤ n)
-    × MembersGoOn (members (value l.depth) (length l.initial.reader) l.initial.reader) l.found.entries (members (value l.depth) n l.reader)
+    × MembersGoOn (members (value l.depth) (length l.initial.reader) l.initial.reader) (drafted l.found) (members (value l.depth) n l.reader)
     × (length l.reader ≤ length l.initial.reader)
     × KeepsPlain l.initial.reader l.reader
 

@@ -1,6 +1,5 @@
 use Rattle.std.proofs.Common.{◌≡◌, ◌∙◌, ap, sym, subst, rules, map}
 use Rattle.jv_data.specs.Held.{members_in}
-use Rattle.jv_data.specs.Shared.{entries_in}
 use Rattle.jv_data.specs.View.{view}
 use Rattle.jv_meaning.proofs.shared.Results.{if_ok_map}
 use Rattle.jv_meaning.specs.Value.{array, items_of, object}
@@ -9,7 +8,7 @@ use Rattle.jv_value.specs.private.ItemGroups.{groups_in, groups_left}
 use Rattle.jv_value.specs.private.Locations.{locations_in}
 use Rattle.jv_value.specs.private.Removals.{GoesOn, GroupsLeave, items_with}
 use Rattle.jv_value.proofs.Following.{groups_left-grouped_from}
-use Rattle.jv_value.proofs.Grouped.{members_same}
+use Rattle.jv_value.proofs.Grouped.{members_same_in}
 use Rattle.jv_value.proofs.removing.go_in.Goals as goal
 
 pub returns-in_ok-groups-in-List : goal.returns-in_ok-groups-in-List
@@ -31,5 +30,5 @@ returns-in_ok-groups-in-Table c =
     let whole = without_locations qs (view c.args.value) in
     let groups = c.in_ok-groups-in-Table.ensures in
     let law : GroupsLeave c.in_ok-groups-in-Table.groups (members_in table) whole =
-    λ ps h. ap object (members_same (entries_in table) ps qs (λ s. h s ∙ groups.same s)) ∙ sym (ap (without_locations qs) c.into_table.ensures) in
+    λ ps h. ap object (members_same_in table ps qs (λ s. h s ∙ groups.same s)) ∙ sym (ap (without_locations qs) c.into_table.ensures) in
     if_ok_map c.next_member.result c.next_member.ensures (λ r e. e whole law)

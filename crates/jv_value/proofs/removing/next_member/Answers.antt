@@ -4,7 +4,6 @@ use Rattle.std.specs.BTreeMap.{get, is_at, Updates}
 use Rattle.std.specs.Map.{lookup}
 use Rattle.jv_data.proofs.shared.Levels.{view-Table}
 use Rattle.jv_data.specs.Held.{members_in}
-use Rattle.jv_data.specs.Shared.{entries_in}
 use Rattle.jv_data.specs.View.{view}
 use Rattle.jv_data.specs.declared.values.Val as val
 use Rattle.jv_meaning.specs.Value.{object}
@@ -26,7 +25,7 @@ loop-name-preserved c =
     let found : get string_cmp old name ≡ Some c.in-Some.locations = search rules in
     let taken : Updates string_cmp old new name None = search rules in
     let law = rw (c.in-None.is, c.as_str.ensures.value, c.as_slice.ensures.value) at c.in_ok-taken_out.ensures in
-    (c.loop-name.invariant.0, λ w h. group_taken old new name c.in-Some.locations (members_in c.loop-name.members) w (entries_in c.taken_out.new.members) found taken (c.loop-name.invariant.1 w h) law)
+    (c.loop-name.invariant.0, λ w h. group_taken old new name c.in-Some.locations (members_in c.loop-name.members) w c.taken_out.new.members found taken (c.loop-name.invariant.1 w h) law)
 
 pub returns-in-Some-2 : goal.returns-in-Some-2
 returns-in-Some-2 c = λ w h z all.
@@ -38,7 +37,7 @@ returns-in-Some-2 c = λ w h z all.
     let law = rw (c.in-Some-2.is, c.as_str.ensures.value, c.as_slice.ensures.value) at c.in_ok-taken_out.ensures in
     let v = without_locations (locations_in c.in-Some.locations.items) (view c.in-Some-2.part) in
     let o = Members c.taken_out.new.members new name in
-    let leaves : Leaves o v w = group_put old new name c.in-Some.locations (members_in c.loop-name.members) w v (entries_in c.taken_out.new.members) found taken (c.loop-name.invariant.1 w h) law in
+    let leaves : Leaves o v w = group_put old new name c.in-Some.locations (members_in c.loop-name.members) w v c.taken_out.new.members found taken (c.loop-name.invariant.1 w h) law in
     let pushed = c.in_ok-push-in-Some-2.ensures.items ∙ ap (λ os. os ++ o ∷ []) c.loop-name.invariant.0 in
     subst (λ os. AllLeave os v z) (sym pushed) (all_leave_more c.args.opened.now.items o v w z leaves all)
 
