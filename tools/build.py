@@ -31,12 +31,12 @@ PROGRAM = "jql"
 LANE = 3_500_000_000
 # A crate takes this time if docs/GATE.md has no row for it: so long to load its libraries, and so long for a line.
 MINUTES_TO_LOAD, MINUTES_A_LINE = 0.15, 1 / 1500
-# The most jobs for one crate (two take a third off its time, more only processor time), and the silence after which a line
-# says what runs.
+# The most jobs for one crate, unless it goes before the others, and the silence after which a line says what runs.
 JOBS_AT_MOST, SECONDS_OF_SILENCE = 2, 45
-# The crate that begins the longest chain goes before the others: it gets all its jobs from this number of lanes on, and the processors
-# first, since the others run with this niceness.
-LANES_TO_SHARE, NICENESS = 3, 10
+# A crate that begins the longest chain, or one that is shorter by at most this part, goes before the others from this number of lanes on:
+# it gets as many jobs also where no lane is idle, every lane that no other crate needs, and the processors first, since the others run
+# with this niceness.
+LANES_TO_SHARE, NEARLY, NICENESS = 3, 0.05, 10
 LINES_OF_A_LOG = 40
 
 
@@ -200,20 +200,22 @@ class Run:
         print(text, flush=True)
 
     def is_first(self, crate):
-        """Whether this crate begins the longest chain that is left, and there are lanes enough to put it before the others."""
+        """Whether this crate begins the longest chain that is left, or nearly, and there are lanes enough to put it before the others."""
         begun = [it for it, _, _ in self.running.values()]
-        return self.lanes >= LANES_TO_SHARE and all(self.chains[crate.name] >= self.chains[it.name] for it in [*self.left, *begun])
+        longest = max(self.chains[it.name] for it in [*self.left, *begun])
+        return self.lanes >= LANES_TO_SHARE and self.chains[crate.name] >= (1 - NEARLY) * longest
 
     def start(self):
-        """Starts crates whose libraries are all done. The one with the longest chain has all its jobs, also where no lane is idle; lanes that
-        no other crate needs go to the next ones."""
+        """Starts crates whose libraries are all done. One that goes before the others has its jobs also where no lane is idle; lanes that no
+        other crate needs go to the next ones."""
         ready = [crate for crate in self.left if all(low.name in self.done for low in crate.deps)]
         for at, crate in enumerate(ready):
             idle = self.lanes - sum(jobs for _, _, jobs in self.running.values())
             is_first = self.is_first(crate)
             if idle < 1 and not is_first:
                 return
-            jobs = JOBS_AT_MOST if is_first else min(JOBS_AT_MOST, max(1, idle - (len(ready) - at - 1)))
+            spare = idle - (len(ready) - at - 1)
+            jobs = max(JOBS_AT_MOST, spare) if is_first else min(JOBS_AT_MOST, max(1, spare))
             self.left.remove(crate)
             niceness = 0 if is_first or self.lanes < LANES_TO_SHARE else NICENESS
             self.running[started(build, crate, jobs, niceness)] = crate, time.monotonic(), jobs
