@@ -11,10 +11,11 @@ use Rattle.std.specs.Str.{chars, IsUtf8}
 use Rattle.jv_data.proofs.Members.{put_front}
 use Rattle.jv_data.proofs.Names.{AreRising, Texts}
 use Rattle.jv_data.proofs.Utf8.{chars-cmp, utf8-cmp}
-use Rattle.jv_data.specs.Drafts.{present, values_there, AreNone, AreSome}
+use Rattle.jv_data.specs.Drafts.{present}
+use Rattle.jv_data.specs.private.Slots.{values_there, AreNone, AreSome}
 use Rattle.jv_data.specs.View.{view, members_view}
 use Rattle.jv_data.specs.declared.values.Val.{Val}
-use Rattle.jv_data.specs.private.Names.{IsAt}
+use Rattle.jv_data.specs.Names.{IsAt}
 use Rattle.jv_meaning.specs.Members.{IsBefore, put}
 use Rattle.jv_meaning.specs.Text.{text_of}
 use Rattle.jv_meaning.specs.Value.{member, text_cmp}

@@ -7,7 +7,8 @@ use Rattle.std.specs.List.{AllByRecursion, AllZip}
 use Rattle.std.specs.List.Sorted.{IsStrictlySortedBy}
 use Rattle.std.specs.Map.{keys_of, lookup, remove_entry}
 use Rattle.std.specs.Ordering.{ordering_reverse}
-use Rattle.jv_data.specs.private.Names.{IsAt, GoesTo}
+use Rattle.jv_data.specs.Names.{IsAt}
+use Rattle.jv_data.specs.private.Names.{GoesTo}
 use Rattle.jv_data.specs.declared.containers.names.Names.{Names}
 
 -- names in order, by their bytes

@@ -10,7 +10,7 @@ use Rattle.jv_data.specs.declared.containers.drafts.Place.{Place}
 use Rattle.jv_data.specs.declared.containers.drafts.Place.TheVariants as place
 use Rattle.jv_data.specs.declared.containers.slots.Slots.{Slots}
 use Rattle.jv_data.specs.declared.values.Val.{Val}
-use Rattle.jv_data.specs.private.Names.{IsAt}
+use Rattle.jv_data.specs.Names.{IsAt}
 use Rattle.jv_meaning.specs.Value.{Members, no_members}
 
 -- the names that have a value, with their values
@@ -19,22 +19,6 @@ present [] slots = []
 present (n ∷ ns) [] = []
 present (n ∷ ns) (None ∷ slots) = present ns slots
 present (n ∷ ns) (Some v ∷ slots) = (n, v) ∷ present ns slots
-
-abbrev pub AreNone : {X : Type 0} → List (Option X) → Type 0
-AreNone [] = Unit {0}
-AreNone (None ∷ slots) = AreNone slots
-AreNone (Some v ∷ slots) = ⊥
-
-abbrev pub AreSome : {X : Type 0} → List (Option X) → Type 0
-AreSome [] = Unit {0}
-AreSome (None ∷ slots) = ⊥
-AreSome (Some v ∷ slots) = AreSome slots
-
--- the values that are there
-abbrev pub values_there : {X : Type 0} → List (Option X) → List X
-values_there [] = []
-values_there (None ∷ slots) = values_there slots
-values_there (Some v ∷ slots) = v ∷ values_there slots
 
 abbrev pub held_in : Slots → List (String Global × Val)
 held_in s = present s.names.value.texts.items s.values.items

@@ -3,5 +3,6 @@ pub mod Shared
 pub mod View
 pub mod Held
 pub mod Fails
+pub mod Names
 pub mod Drafts
 pub mod private

@@ -1,3 +1,4 @@
 -- What only contracts of private functions cite.
 pub mod Pairs
 pub mod Names
+pub mod Slots

@@ -1,14 +1,8 @@
--- The place of a name among names in order. Names are compared by their bytes.
+-- Where a name goes among names in order. Names are compared by their bytes.
 use Rattle.std.specs.Prelude.{◌≡◌, ℕ, zero, suc, List, [], ◌∷◌}
-use Rattle.std.specs.declared.cmp.Ordering.TheVariants.{Less, Equal, Greater}
+use Rattle.std.specs.declared.cmp.Ordering.TheVariants.{Less, Greater}
 use Rattle.std.specs.Cmp.Lexicographic.{slice_cmp}
 use Rattle.std.specs.Ordering.{nat_cmp}
-
--- the name is the one at this index, and comes after those before it
-abbrev pub IsAt : List ℕ → List (List ℕ) → ℕ → Type 0
-IsAt k [] i = ⊥
-IsAt k (l ∷ ls) zero = slice_cmp nat_cmp k l ≡ Equal
-IsAt k (l ∷ ls) (suc i) = (slice_cmp nat_cmp k l ≡ Greater) × IsAt k ls i
 
 -- the name comes after those before this index, and before the one at it
 abbrev pub GoesTo : List ℕ → List (List ℕ) → ℕ → Type 0

@@ -4,7 +4,8 @@ ghost use Rattle.std.specs.Cmp.Lexicographic.{slice_cmp};
 ghost use Rattle.std.specs.List.{insert, remove};
 ghost use Rattle.std.specs.List.Sorted.{IsStrictlySortedBy, IsStrictlySortedBy-prop};
 ghost use Rattle.std.specs.Ordering.{nat_cmp};
-ghost use Rattle.jv_data.specs.private.Names.{IsAt, GoesTo};
+ghost use Rattle.jv_data.specs.Names.{IsAt};
+ghost use Rattle.jv_data.specs.private.Names.{GoesTo};
 
 use std::alloc::{AllocError, Global};
 use std::cmp::Ordering;

@@ -1,7 +1,7 @@
 // Lists of names that several objects share.
 ghost use Rattle.std.specs.Prelude.{◌≡◌, [], IfOk, IfSome, IsTrue, map, string_bytes};
 ghost use Rattle.jv_data.specs.Drafts.{held_in, IsIn};
-ghost use Rattle.jv_data.specs.private.Names.{IsAt};
+ghost use Rattle.jv_data.specs.Names.{IsAt};
 
 use super::names::Names;
 use super::slots::Slots;

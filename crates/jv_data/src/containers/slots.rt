@@ -1,7 +1,8 @@
 // A list of names that are known, and the value of each name that has one.
 ghost use Rattle.std.specs.Prelude.{◌≡◌, ◌<◌, [], ℕ, List, IfOk, IfSome, IsTrue, length};
 ghost use Rattle.std.specs.Str.{chars, IsUtf8};
-ghost use Rattle.jv_data.specs.Drafts.{present, held_in, values_there, AreNone, AreSome, IsIn};
+ghost use Rattle.jv_data.specs.Drafts.{present, held_in, IsIn};
+ghost use Rattle.jv_data.specs.private.Slots.{values_there, AreNone, AreSome};
 ghost use Rattle.jv_data.specs.Held.{members_in};
 ghost use Rattle.jv_data.specs.View.{view, members_view};
 ghost use Rattle.jv_meaning.specs.Members.{put};

@@ -1,6 +1,6 @@
 use Rattle.std.proofs.Common.{◌≡◌, ◌∙◌, ◌∷◌, ◌+◌, ◌<◌, List, Option, Some, None, false, drop, length, is_none, ap, sym, subst, rules}
 use Rattle.std.proofs.lemmas.List.{drop_all, drop_more}
-use Rattle.jv_data.specs.Drafts.{AreSome}
+use Rattle.jv_data.specs.private.Slots.{AreSome}
 use Rattle.jv_data.specs.declared.values.Val.{Val}
 use Rattle.jv_data.proofs.containers.slots.are_some.Goals as goal
 

@@ -1,5 +1,5 @@
 use Rattle.std.proofs.Common.{drop}
-use Rattle.jv_data.specs.Drafts.{AreSome}
+use Rattle.jv_data.specs.private.Slots.{AreSome}
 use Rattle.jv_data.proofs.containers.slots.are_some.Given as goal
 
 -- all values are there if those that are left are

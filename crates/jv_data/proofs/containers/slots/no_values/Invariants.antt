@@ -1,5 +1,5 @@
 use Rattle.std.proofs.Common.{◌≡◌, length}
-use Rattle.jv_data.specs.Drafts.{AreNone}
+use Rattle.jv_data.specs.private.Slots.{AreNone}
 use Rattle.jv_data.proofs.containers.slots.no_values.Given as goal
 
 abbrev pub invariant-loop : goal.invariant-loop

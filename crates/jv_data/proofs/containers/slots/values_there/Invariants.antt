@@ -1,6 +1,6 @@
 use Rattle.std.proofs.Common.{◌≡◌, ◌++◌, length}
 use Rattle.std.specs.Vec.Iter.{into_iter_items, into_iter_len}
-use Rattle.jv_data.specs.Drafts.{values_there}
+use Rattle.jv_data.specs.private.Slots.{values_there}
 use Rattle.jv_data.proofs.containers.slots.values_there.Given as goal
 
 abbrev pub invariant-loop-slot : goal.invariant-loop-slot

@@ -6,7 +6,7 @@ use Rattle.jv_data.proofs.Places.{member_found, members_view-remove_entry}
 use Rattle.jv_data.proofs.Shares.{on_err}
 use Rattle.jv_data.specs.Shared.{entries_held}
 use Rattle.jv_data.specs.View.{view, members_view}
-use Rattle.jv_data.specs.private.Names.{IsAt}
+use Rattle.jv_data.specs.Names.{IsAt}
 use Rattle.jv_meaning.specs.Members.{without}
 use Rattle.jv_data.proofs.containers.members.Members+Val.remove.Goals as goal
 

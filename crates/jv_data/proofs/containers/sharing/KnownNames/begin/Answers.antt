@@ -1,6 +1,6 @@
 use Rattle.std.proofs.Common.{◌∙◌, length, map, string_bytes, sym, ap, subst, arith}
 use Rattle.jv_data.proofs.Names.{below_length}
-use Rattle.jv_data.specs.private.Names.{IsAt}
+use Rattle.jv_data.specs.Names.{IsAt}
 use Rattle.jv_data.proofs.containers.sharing.KnownNames.begin.Goals as goal
 
 pub returns-in_ok-slots-in-Some : goal.returns-in_ok-slots-in-Some

@@ -2,7 +2,7 @@ use Rattle.std.proofs.Common.{◌∙◌, zip, sym, ap, rules}
 use Rattle.std.proofs.lemmas.Result.{IfOk-weaker}
 use Rattle.jv_data.proofs.Drafts.{present_full}
 use Rattle.jv_data.proofs.shared.Levels.{members_held}
-use Rattle.jv_data.specs.Drafts.{AreSome}
+use Rattle.jv_data.specs.private.Slots.{AreSome}
 use Rattle.jv_data.specs.View.{members_view}
 use Rattle.jv_data.proofs.containers.slots.Slots.finish.Goals as goal
 
