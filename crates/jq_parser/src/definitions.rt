@@ -16,7 +16,7 @@ use jq_lexer::{Symbol, Token};
 impl Parser {
     /// The name and the parameters of a definition: the tokens between `def` and the body.
     #[tactic(auto, unfolding(crate::specs::laws::Machine::function_head, crate::specs::laws::Combinators::any_name, crate::specs::laws::Combinators::any_name_on, crate::specs::laws::Combinators::and_then, crate::specs::laws::Combinators::expect))]
-    pub fn function_head(&mut self) -> Result<Head, ParseFault>
+    pub(crate) fn function_head(&mut self) -> Result<Head, ParseFault>
         ensures frames { OnOk result (self.new.frames ≡ self.old.frames) }
         ensures value { MatchResult result (λ h. m.function_head (ahead self.old) ≡ Some ((text_of h.name, map parameter_of h.parameters.items), ahead self.new)) (λ e. e ≡ Syntax → m.function_head (ahead self.old) ≡ None) }
     {

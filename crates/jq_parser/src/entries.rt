@@ -23,7 +23,11 @@ use jq_lexer::{Keyword, Symbol, Token};
 
 impl Parser {
     #[tactic(auto, using(crate::proofs::Tests::text_stops), unfolding(crate::specs::laws::Machine::text_turn, crate::specs::private::Parsing::next_of))]
-    pub fn text(&mut self, usage: TextUse, before: Vec<Piece<Tree>>) -> Result<Mode, ParseFault>
+    pub(crate) fn text(
+        &mut self,
+        usage: TextUse,
+        before: Vec<Piece<Tree>>,
+    ) -> Result<Mode, ParseFault>
         ensures { Turns result self.new (m.text_turn (text_use_of usage) (map piece_of before.items) (waiting self.old) (ahead self.old)) }
     {
         let Some(piece) = self.piece() else {
@@ -34,7 +38,7 @@ impl Parser {
 
     /// A string that begins with this piece.
     #[tactic(auto, unfolding(crate::specs::private::Parsing::next_of))]
-    pub fn begin_text(&mut self, usage: TextUse, piece: String) -> Result<Mode, ParseFault>
+    pub(crate) fn begin_text(&mut self, usage: TextUse, piece: String) -> Result<Mode, ParseFault>
         ensures { Turns result self.new (m.go (m.text (text_use_of usage) []) (waiting self.old) (token.piece (text_of piece) ∷ ahead self.old)) }
     {
         self.put_back(Token::Piece(piece))?;
@@ -64,7 +68,7 @@ impl Parser {
     }
 
     #[tactic(auto, unfolding(crate::specs::laws::Machine::text_done_turn, crate::specs::private::Parsing::next_of))]
-    pub fn text_done(&mut self, usage: TextUse, text: Text) -> Result<Mode, ParseFault>
+    pub(crate) fn text_done(&mut self, usage: TextUse, text: Text) -> Result<Mode, ParseFault>
         ensures { Turns result self.new (m.text_done_turn (text_use_of usage) (pieces_of text) (waiting self.old) (ahead self.old)) }
     {
         match usage {
@@ -136,7 +140,7 @@ impl Parser {
     }
 
     #[tactic(auto, unfolding(crate::specs::private::Parsing::next_of))]
-    pub fn add_entry(
+    pub(crate) fn add_entry(
         &mut self,
         entries: Vec<Entry<Tree>>,
         entry: Entry<Tree>,
@@ -148,7 +152,7 @@ impl Parser {
     }
 
     #[tactic(auto, unfolding(crate::specs::laws::Machine::entry_turn, crate::specs::private::Parsing::next_of))]
-    pub fn entry(&mut self, entries: Vec<Entry<Tree>>) -> Result<Mode, ParseFault>
+    pub(crate) fn entry(&mut self, entries: Vec<Entry<Tree>>) -> Result<Mode, ParseFault>
         ensures { Turns result self.new (m.entry_turn (map named_entry entries.items) (waiting self.old) (ahead self.old)) }
     {
         let Some(token) = self.tokens.pop_front() else {
@@ -209,7 +213,7 @@ impl Parser {
     }
 
     #[tactic(auto, using(crate::proofs::Tests::after_entry_tests), unfolding(crate::specs::laws::Machine::after_entry_turn, crate::specs::private::Parsing::next_of))]
-    pub fn after_entry(&mut self, entries: Vec<Entry<Tree>>) -> Result<Mode, ParseFault>
+    pub(crate) fn after_entry(&mut self, entries: Vec<Entry<Tree>>) -> Result<Mode, ParseFault>
         ensures { Turns result self.new (m.after_entry_turn (map named_entry entries.items) (waiting self.old) (ahead self.old)) }
     {
         if self.take(Symbol::Comma) {

@@ -43,7 +43,7 @@ impl Parser {
         }
     }
 
-    pub fn begins_with_piece(&self) -> bool
+    pub(crate) fn begins_with_piece(&self) -> bool
         ensures { result ≡ is_piece (first (ahead self.now)) }
     {
         match self.tokens.front() {
@@ -54,7 +54,7 @@ impl Parser {
     }
 
     /// Removes the next token.
-    pub fn skip(&mut self)
+    pub(crate) fn skip(&mut self)
         ensures ahead { ahead self.new ≡ tail (ahead self.old) }
         ensures frames { self.new.frames ≡ self.old.frames }
     {
@@ -62,7 +62,7 @@ impl Parser {
     }
 
     /// Takes the symbol if it is the next token.
-    pub fn take(&mut self, wanted: Symbol) -> bool
+    pub(crate) fn take(&mut self, wanted: Symbol) -> bool
         ensures found { result ≡ is_symbol (symbol_of wanted) (first (ahead self.old)) }
         ensures ahead { ahead self.new ≡ (if result then tail (ahead self.old) else ahead self.old) }
         ensures frames { self.new.frames ≡ self.old.frames }
@@ -75,7 +75,7 @@ impl Parser {
     }
 
     /// Takes the reserved word if it is the next token.
-    pub fn take_word(&mut self, wanted: Keyword) -> bool
+    pub(crate) fn take_word(&mut self, wanted: Keyword) -> bool
         ensures found { result ≡ is_keyword (keyword_of wanted) (first (ahead self.old)) }
         ensures ahead { ahead self.new ≡ (if result then tail (ahead self.old) else ahead self.old) }
         ensures frames { self.new.frames ≡ self.old.frames }
@@ -87,7 +87,7 @@ impl Parser {
         found
     }
 
-    pub fn put_back(&mut self, token: Token) -> Result<(), ParseFault>
+    pub(crate) fn put_back(&mut self, token: Token) -> Result<(), ParseFault>
         ensures ok { OnOk result (ahead self.new ≡ token_of token ∷ ahead self.old) }
         ensures frames { OnOk result (self.new.frames ≡ self.old.frames) }
         ensures memory { IfErr result (λ e. e ≡ NoMemory) }
@@ -97,14 +97,14 @@ impl Parser {
     }
 
     /// The fault of a token that must not be next. It is put back, so that the tokens that are left begin with it.
-    pub fn refused(&mut self, token: Token) -> ParseFault {
+    pub(crate) fn refused(&mut self, token: Token) -> ParseFault {
         match self.put_back(token) {
             Ok(()) => ParseFault::Syntax,
             Err(e) => e,
         }
     }
 
-    pub fn wait(&mut self, frame: Frame) -> Result<(), ParseFault>
+    pub(crate) fn wait(&mut self, frame: Frame) -> Result<(), ParseFault>
         ensures ok { OnOk result (waiting self.new ≡ frame_of frame ∷ waiting self.old) }
         ensures ahead { ahead self.new ≡ ahead self.old }
         ensures memory { IfErr result (λ e. e ≡ NoMemory) }
@@ -114,7 +114,7 @@ impl Parser {
     }
 
     /// The symbol must be the next token.
-    pub fn expect(&mut self, wanted: Symbol) -> Result<(), ParseFault>
+    pub(crate) fn expect(&mut self, wanted: Symbol) -> Result<(), ParseFault>
         ensures value { MatchResult result (λ _. is_symbol (symbol_of wanted) (first (ahead self.old)) ≡ true) (λ _. is_symbol (symbol_of wanted) (first (ahead self.old)) ≡ false) }
         ensures ahead { OnOk result (ahead self.new ≡ tail (ahead self.old)) }
         ensures frames { self.new.frames ≡ self.old.frames }
@@ -127,7 +127,7 @@ impl Parser {
     }
 
     /// The reserved word must be the next token.
-    pub fn expect_word(&mut self, wanted: Keyword) -> Result<(), ParseFault>
+    pub(crate) fn expect_word(&mut self, wanted: Keyword) -> Result<(), ParseFault>
         ensures value { MatchResult result (λ _. is_keyword (keyword_of wanted) (first (ahead self.old)) ≡ true) (λ _. is_keyword (keyword_of wanted) (first (ahead self.old)) ≡ false) }
         ensures ahead { OnOk result (ahead self.new ≡ tail (ahead self.old)) }
         ensures frames { self.new.frames ≡ self.old.frames }
@@ -139,7 +139,7 @@ impl Parser {
         }
     }
 
-    pub fn take_interpolation(&mut self) -> bool
+    pub(crate) fn take_interpolation(&mut self) -> bool
         ensures found { result ≡ is_interpolation (first (ahead self.old)) }
         ensures ahead { ahead self.new ≡ (if result then tail (ahead self.old) else ahead self.old) }
         ensures frames { self.new.frames ≡ self.old.frames }
@@ -161,7 +161,7 @@ impl Parser {
         }
     }
 
-    pub fn begins_with_field(&self) -> bool
+    pub(crate) fn begins_with_field(&self) -> bool
         ensures { result ≡ is_field (first (ahead self.now)) }
     {
         match self.tokens.front() {
@@ -191,7 +191,7 @@ impl Parser {
         }
     }
 
-    pub fn begins_with_as(&self) -> bool
+    pub(crate) fn begins_with_as(&self) -> bool
         ensures { result ≡ is_as (first (ahead self.now)) }
     {
         match self.tokens.front() {
@@ -202,7 +202,7 @@ impl Parser {
     }
 
     /// Whether a postfix form may begin here.
-    pub fn begins_postfix(&self) -> bool
+    pub(crate) fn begins_postfix(&self) -> bool
         ensures { result ≡ begins_post (first (ahead self.now)) }
     {
         match self.tokens.front() {
@@ -213,14 +213,14 @@ impl Parser {
         }
     }
 
-    pub fn at_end(&self) -> bool
+    pub(crate) fn at_end(&self) -> bool
         ensures { result ≡ ended (ahead self.now) }
     {
         self.tokens.is_empty()
     }
 
     /// The level of the next token if it is an operator, or 0.
-    pub fn level_ahead(&self) -> u8
+    pub(crate) fn level_ahead(&self) -> u8
         ensures { result ≡ level_first (first (ahead self.now)) }
     {
         match self.tokens.front() {
@@ -230,7 +230,7 @@ impl Parser {
     }
 
     /// Takes the next token if it is a name.
-    pub fn name(&mut self) -> Option<String>
+    pub(crate) fn name(&mut self) -> Option<String>
         ensures taken { MatchOption result (is_name (first (ahead self.old)) ≡ false) (λ s. ahead self.old ≡ token.name (text_of s) ∷ ahead self.new) }
         ensures frames { self.new.frames ≡ self.old.frames }
     {
@@ -252,7 +252,7 @@ impl Parser {
     }
 
     /// Takes the next token if it is a variable.
-    pub fn variable(&mut self) -> Option<String>
+    pub(crate) fn variable(&mut self) -> Option<String>
         ensures taken { MatchOption result (is_variable (first (ahead self.old)) ≡ false) (λ s. ahead self.old ≡ token.variable (text_of s) ∷ ahead self.new) }
         ensures frames { self.new.frames ≡ self.old.frames }
     {
@@ -274,7 +274,7 @@ impl Parser {
     }
 
     /// Takes the next token if it is a piece of a string.
-    pub fn piece(&mut self) -> Option<String>
+    pub(crate) fn piece(&mut self) -> Option<String>
         ensures taken { MatchOption result (is_piece (first (ahead self.old)) ≡ false) (λ s. ahead self.old ≡ token.piece (text_of s) ∷ ahead self.new) }
         ensures frames { self.new.frames ≡ self.old.frames }
     {
@@ -296,7 +296,7 @@ impl Parser {
     }
 
     /// Takes the next token if it is a field.
-    pub fn field(&mut self) -> Option<String>
+    pub(crate) fn field(&mut self) -> Option<String>
         ensures taken { MatchOption result (is_field (first (ahead self.old)) ≡ false) (λ s. ahead self.old ≡ token.field (text_of s) ∷ ahead self.new) }
         ensures frames { self.new.frames ≡ self.old.frames }
     {

@@ -22,7 +22,7 @@ use jq_lexer::{Keyword, Symbol, Token};
 
 impl Parser {
     #[tactic(auto, using(crate::proofs::Tests::pattern_tests, crate::proofs::Tests::pattern_bracket, crate::proofs::Tests::pattern_brace), unfolding(crate::specs::laws::Machine::pattern_turn, crate::specs::private::Parsing::next_of))]
-    pub fn pattern(&mut self) -> Result<Mode, ParseFault>
+    pub(crate) fn pattern(&mut self) -> Result<Mode, ParseFault>
         ensures { Turns result self.new (m.pattern_turn (waiting self.old) (ahead self.old)) }
     {
         if self.take(Symbol::LeftBracket) {
@@ -40,7 +40,11 @@ impl Parser {
     }
 
     #[tactic(auto, unfolding(crate::specs::laws::Machine::part_key_turn, crate::specs::private::Parsing::next_of))]
-    pub fn part_key(&mut self, members: Vec<Member>, key: PartKey) -> Result<Mode, ParseFault>
+    pub(crate) fn part_key(
+        &mut self,
+        members: Vec<Member>,
+        key: PartKey,
+    ) -> Result<Mode, ParseFault>
         ensures { Turns result self.new (m.part_key_turn (map named_as_part members.items) (part_key_of key) (waiting self.old) (ahead self.old)) }
     {
         self.wait(Frame::Pattern(PatternFrame::PatternMember(members, key)))?;
@@ -65,7 +69,7 @@ impl Parser {
     }
 
     #[tactic(auto, unfolding(crate::specs::laws::Machine::member_turn, crate::specs::private::Parsing::next_of))]
-    pub fn member(&mut self, members: Vec<Member>) -> Result<Mode, ParseFault>
+    pub(crate) fn member(&mut self, members: Vec<Member>) -> Result<Mode, ParseFault>
         ensures { Turns result self.new (m.member_turn (map named_as_part members.items) (waiting self.old) (ahead self.old)) }
     {
         let Some(token) = self.tokens.pop_front() else {
@@ -114,7 +118,7 @@ impl Parser {
     }
 
     #[tactic(auto, using(crate::proofs::Tests::after_member_tests), unfolding(crate::specs::laws::Machine::after_member_turn, crate::specs::private::Parsing::next_of))]
-    pub fn after_member(&mut self, members: Vec<Member>) -> Result<Mode, ParseFault>
+    pub(crate) fn after_member(&mut self, members: Vec<Member>) -> Result<Mode, ParseFault>
         ensures { Turns result self.new (m.after_member_turn (map named_as_part members.items) (waiting self.old) (ahead self.old)) }
     {
         if self.take(Symbol::Comma) {
@@ -157,7 +161,7 @@ impl Parser {
     }
 
     #[tactic(auto, using(crate::proofs::Tests::operator_waits, crate::proofs::Tests::scope_waits, crate::proofs::Tests::term_waits, crate::proofs::Tests::block_waits, crate::proofs::Tests::object_waits), unfolding(crate::specs::laws::Machine::have_pattern_turn))]
-    pub fn have_pattern(&mut self, x: Box<Pattern>) -> Result<Mode, ParseFault>
+    pub(crate) fn have_pattern(&mut self, x: Box<Pattern>) -> Result<Mode, ParseFault>
         ensures { Turns result self.new (m.have_pattern_turn (pattern_in x) (waiting self.old) (ahead self.old)) }
     {
         let Some(frame) = self.frames.pop_front() else {

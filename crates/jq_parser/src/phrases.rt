@@ -12,7 +12,7 @@ use jq_lexer::{Keyword, Symbol};
 
 impl Parser {
     #[tactic(auto, using(crate::proofs::Tests::main_tests), unfolding(crate::specs::laws::Machine::main_turn, crate::specs::private::Parsing::next_of))]
-    pub fn main(&mut self) -> Result<Mode, ParseFault>
+    pub(crate) fn main(&mut self) -> Result<Mode, ParseFault>
         ensures { Turns result self.new (m.main_turn (waiting self.old) (ahead self.old)) }
     {
         if self.at_end() {
@@ -26,7 +26,7 @@ impl Parser {
     }
 
     #[tactic(auto, using(crate::proofs::Tests::pipe_tests), unfolding(crate::specs::laws::Machine::pipe_turn, crate::specs::private::Parsing::next_of))]
-    pub fn pipe(&mut self, before: Option<Box<Tree>>) -> Result<Mode, ParseFault>
+    pub(crate) fn pipe(&mut self, before: Option<Box<Tree>>) -> Result<Mode, ParseFault>
         ensures { Turns result self.new (m.pipe_turn (maybe before) (waiting self.old) (ahead self.old)) }
     {
         if self.take_word(Keyword::Def) {
@@ -54,7 +54,7 @@ impl Parser {
     }
 
     #[tactic(auto, unfolding(crate::specs::laws::Machine::turn, crate::specs::private::Parsing::next_of))]
-    pub fn level(&mut self, upto: u8) -> Result<Mode, ParseFault>
+    pub(crate) fn level(&mut self, upto: u8) -> Result<Mode, ParseFault>
         ensures { Turns result self.new (m.turn (m.want_level upto) (waiting self.old) (ahead self.old)) }
     {
         self.wait(Frame::Operator(OperatorFrame::Climbing(upto)))?;
@@ -62,7 +62,7 @@ impl Parser {
     }
 
     #[tactic(auto, unfolding(crate::specs::laws::Machine::turn, crate::specs::private::Parsing::next_of))]
-    pub fn value(&mut self) -> Result<Mode, ParseFault>
+    pub(crate) fn value(&mut self) -> Result<Mode, ParseFault>
         ensures { Turns result self.new (m.turn m.want_value (waiting self.old) (ahead self.old)) }
     {
         self.wait(Frame::Object(ObjectFrame::EndsValue))?;
@@ -70,7 +70,7 @@ impl Parser {
     }
 
     #[tactic(auto, using(crate::proofs::Tests::una_tests), unfolding(crate::specs::laws::Machine::una_turn, crate::specs::private::Parsing::next_of))]
-    pub fn unary(&mut self) -> Result<Mode, ParseFault>
+    pub(crate) fn unary(&mut self) -> Result<Mode, ParseFault>
         ensures { Turns result self.new (m.una_turn (waiting self.old) (ahead self.old)) }
     {
         if self.take(Symbol::Minus) {
@@ -85,7 +85,7 @@ impl Parser {
     }
 
     #[tactic(auto, using(crate::proofs::Tests::body_tests), unfolding(crate::specs::laws::Machine::body_turn, crate::specs::private::Parsing::next_of))]
-    pub fn body(&mut self) -> Result<Mode, ParseFault>
+    pub(crate) fn body(&mut self) -> Result<Mode, ParseFault>
         ensures { Turns result self.new (m.body_turn (waiting self.old) (ahead self.old)) }
     {
         if self.take(Symbol::Minus) {
@@ -96,7 +96,7 @@ impl Parser {
     }
 
     #[tactic(auto, using(crate::proofs::Tests::listed_tests), unfolding(crate::specs::laws::Machine::listed_turn, crate::specs::private::Parsing::next_of))]
-    pub fn listed(&mut self, t: Box<Tree>) -> Result<Mode, ParseFault>
+    pub(crate) fn listed(&mut self, t: Box<Tree>) -> Result<Mode, ParseFault>
         ensures { Turns result self.new (m.listed_turn (tree_in t) (waiting self.old) (ahead self.old)) }
     {
         if self.take(Symbol::Comma) {
@@ -110,7 +110,12 @@ impl Parser {
     }
 
     #[tactic(auto, using(crate::proofs::Tests::operators_none, crate::proofs::Tests::operators_loose, crate::proofs::Tests::operators_tight, crate::proofs::Tests::operators_take), unfolding(crate::specs::laws::Machine::operators_turn, crate::specs::private::Parsing::next_of))]
-    pub fn operators(&mut self, a: Box<Tree>, from: u16, upto: u8) -> Result<Mode, ParseFault>
+    pub(crate) fn operators(
+        &mut self,
+        a: Box<Tree>,
+        from: u16,
+        upto: u8,
+    ) -> Result<Mode, ParseFault>
         ensures { Turns result self.new (m.operators_turn (tree_in a) from upto (waiting self.old) (ahead self.old)) }
     {
         let level = self.level_ahead();

@@ -18,7 +18,7 @@ use jq_lexer::{Keyword, Symbol, Token};
 
 impl Parser {
     #[tactic(auto, unfolding(crate::specs::laws::Machine::post_turn, crate::specs::private::Parsing::next_of))]
-    pub fn postfix(&mut self) -> Result<Mode, ParseFault>
+    pub(crate) fn postfix(&mut self) -> Result<Mode, ParseFault>
         ensures { Turns result self.new (m.post_turn (waiting self.old) (ahead self.old)) }
     {
         match self.tokens.pop_front() {
@@ -160,7 +160,7 @@ impl Parser {
     }
 
     #[tactic(auto, using(crate::proofs::Tests::suffix_tests), unfolding(crate::specs::laws::Machine::suffix_turn, crate::specs::private::Parsing::next_of))]
-    pub fn suffix(&mut self, last: bool, a: Box<Tree>) -> Result<Mode, ParseFault>
+    pub(crate) fn suffix(&mut self, last: bool, a: Box<Tree>) -> Result<Mode, ParseFault>
         ensures { Turns result self.new (m.suffix_turn last (tree_in a) (waiting self.old) (ahead self.old)) }
     {
         if self.take(Symbol::Question) {
@@ -202,7 +202,7 @@ impl Parser {
     }
 
     #[tactic(auto, using(crate::proofs::Tests::bracket_tests), unfolding(crate::specs::laws::Machine::bracket_turn, crate::specs::private::Parsing::next_of))]
-    pub fn bracket(&mut self, a: Box<Tree>) -> Result<Mode, ParseFault>
+    pub(crate) fn bracket(&mut self, a: Box<Tree>) -> Result<Mode, ParseFault>
         ensures { Turns result self.new (m.bracket_turn (tree_in a) (waiting self.old) (ahead self.old)) }
     {
         if self.take(Symbol::RightBracket) {

@@ -8,7 +8,7 @@ use crate::parser::Parser;
 
 impl Parser {
     #[tactic(auto, unfolding(crate::specs::private::Parsing::turned, crate::specs::laws::Machine::turn, crate::specs::private::Parsing::next_of))]
-    pub fn turn(&mut self, mode: Mode) -> Result<Mode, ParseFault>
+    pub(crate) fn turn(&mut self, mode: Mode) -> Result<Mode, ParseFault>
         ensures { Turns result self.new (turned (next_of mode (waiting self.old) (ahead self.old))) }
     {
         match mode {

@@ -168,7 +168,7 @@ impl Parser {
 
     /// After this symbol comes the filter that the frame waits for.
     #[tactic(auto, unfolding(crate::specs::private::Parsing::next_of))]
-    pub fn pipe_after(&mut self, wanted: Symbol, frame: Frame) -> Result<Mode, ParseFault>
+    pub(crate) fn pipe_after(&mut self, wanted: Symbol, frame: Frame) -> Result<Mode, ParseFault>
         ensures { Turns result self.new (m.expecting (symbol_of wanted) (λ i. m.go (m.want_pipe None) (frame_of frame ∷ waiting self.old) i) (ahead self.old)) }
     {
         self.wait(frame)?;
@@ -323,7 +323,7 @@ impl Parser {
     }
 
     #[tactic(auto, unfolding(crate::specs::laws::Machine::after_definition_turn, crate::specs::private::Parsing::next_of))]
-    pub fn after_definition(
+    pub(crate) fn after_definition(
         &mut self,
         usage: DefinitionUse,
         definition: Definition,
@@ -404,7 +404,7 @@ impl Parser {
     }
 
     #[tactic(auto, using(crate::proofs::Tests::pattern_waits), unfolding(crate::specs::laws::Machine::have_turn))]
-    pub fn have(&mut self, t: Box<Tree>) -> Result<Mode, ParseFault>
+    pub(crate) fn have(&mut self, t: Box<Tree>) -> Result<Mode, ParseFault>
         ensures { Turns result self.new (m.have_turn (tree_in t) (waiting self.old) (ahead self.old)) }
     {
         match self.frames.pop_front() {

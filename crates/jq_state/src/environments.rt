@@ -76,7 +76,7 @@ impl<'p> Nodes<'p> {
     }
 
     /// The number of the program's own environments.
-    pub fn first_count(&self) -> u32
+    pub(crate) fn first_count(&self) -> u32
         ensures { result ≡ first_count self.now }
     {
         (self.program.len() + 1) as u32
@@ -102,7 +102,7 @@ impl<'p> Nodes<'p> {
     }
 
     /// Removes the newest environments, down to a count.
-    pub fn cut(&mut self, count: u32)
+    pub(crate) fn cut(&mut self, count: u32)
         requires program { length (program_of self.old) < count }
         requires within { count ≤ count_of self.old }
         ensures count { count_of self.new ≡ count }

@@ -58,7 +58,7 @@ impl<'p> Frames<'p> {
     }
 
     /// The mark of the newest frame; 0 if there is no frame.
-    pub fn mark(&self) -> u32
+    pub(crate) fn mark(&self) -> u32
         ensures { result ≡ mark_of self.now }
     {
         let count = self.frames.len();
@@ -108,7 +108,7 @@ impl<'p> Frames<'p> {
     }
 
     /// Removes the newest frames, down to a count.
-    pub fn cut(&mut self, count: u32)
+    pub(crate) fn cut(&mut self, count: u32)
         requires { count ≤ height_of self.old }
         ensures count { height_of self.new ≡ count }
         ensures mark { mark_of self.new ≤ mark_of self.old }

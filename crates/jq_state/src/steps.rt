@@ -244,7 +244,7 @@ impl<'p> Task<'p> {
 }
 
 /// Equal tasks.
-pub fn copy_tasks<'p>(alloc: Global, tasks: &[Task<'p>]) -> Result<Vec<Task<'p>>, NoMemory>
+fn copy_tasks<'p>(alloc: Global, tasks: &[Task<'p>]) -> Result<Vec<Task<'p>>, NoMemory>
     ensures { IfOk result (λ v. map task_of v.items ≡ map task_of tasks.now) }
 {
     let mut copied = Vec::with_capacity(alloc, tasks.len())?;

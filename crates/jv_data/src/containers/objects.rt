@@ -132,7 +132,7 @@ impl Object<Val> {
 
     /// Takes the list of names of an earlier object that has the same names, if it is known, and frees memory that no member
     /// needs. It does nothing to an object with other references.
-    pub fn share_names(&mut self, known: &mut KnownNames)
+    pub(crate) fn share_names(&mut self, known: &mut KnownNames)
         ensures { members_in self.new ≡ members_in self.old }
     {
         if let Some(members) = Rc::get_mut(&mut self.members) {
