@@ -8,7 +8,6 @@ mod configuring;
 mod faults;
 mod help;
 pub mod laws;
-mod names;
 mod taking;
 
 pub use configuring::{Config, config_of};

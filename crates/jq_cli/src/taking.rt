@@ -10,7 +10,7 @@ ghost use Rattle.jq_cli.specs.Answers.{Takes};
 ghost use Rattle.jq_cli.specs.Pieces.{dashes, is_named, read_as, variable};
 
 use crate::faults::UsageFault;
-use crate::names::is_name;
+use jq_lexer::is_name;
 use jv_data::Val;
 use jv_text::{Fault, read_text};
 use std::alloc::{AllocError, Global};

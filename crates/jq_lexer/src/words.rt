@@ -7,6 +7,7 @@ ghost use Rattle.jv_meaning.specs.Text.{text_of};
 ghost use Rattle.jq_lexer.specs.Views.{token_of};
 ghost use Rattle.jq_lexer.specs.declared.words.Shape.TheVariants.{Number};
 
+use crate::names::{is_letter, is_name_character};
 use crate::numbers::{is_digit, number_length, number_value};
 use crate::spellings::{KEYWORDS, SYMBOLS, keyword_text, symbol_text};
 use crate::tokens::{Keyword, Symbol, Token};
@@ -137,18 +138,6 @@ fn first_symbol(text: &[char], symbols: &[Symbol]) -> Option<Symbol>
         }
     }
     None
-}
-
-fn is_letter(c: char) -> bool
-    ensures { result ≡ is_letter c }
-{
-    matches!(c, 'A'..='Z' | 'a'..='z' | '_')
-}
-
-fn is_name_character(c: char) -> bool
-    ensures { result ≡ is_name_character c }
-{
-    is_letter(c) || is_digit(c)
 }
 
 fn name_length(text: &[char]) -> usize

@@ -5,7 +5,7 @@ use Rattle.std.specs.Str.{chars}
 use Rattle.std.proofs.lemmas.Iterator.{YieldsList-from_chars}
 use Rattle.std.proofs.lemmas.Iterator.Search.{all_from_yields_List}
 use Rattle.jq_tree.specs.Words.{every, is_digit, is_letter, is_name, is_name_character}
-use Rattle.jq_cli.proofs.names.is_name.Goals as goal
+use Rattle.jq_lexer.proofs.names.is_name.Goals as goal
 
 each : (test : ℕ → Bool) (cs : List ℕ) → list_all test cs ≡ every test cs
 each test [] = refl
