@@ -59,7 +59,11 @@ fn texts_of_one_number_or_literal(rt: HostRuntime) -> Result<(), Fail> {
         ("null", "null"),
     ] {
         let value = read_text(rt.alloc(), text.as_bytes())?;
-        assert_eq!(rt; to_compact_string(rt.alloc(), &value)?.as_str(), printed, "{text}");
+        assert_eq!(rt;
+            to_compact_string(rt.alloc(), &value)?.as_str(),
+            printed,
+            "{text}"
+        );
     }
     for text in [
         "007", "-007", "-", "--1", "1-", "+1", "1a", "nul", "nulll", "True",

@@ -1,5 +1,5 @@
 -- The tokens of a text that is one short number or a literal.
-use Rattle.std.proofs.Common.{◌≡◌, ◌∙◌, ℕ, ℤ, suc, ◌+◌, ◌-◌, ◌<◌, ◌≤◌, Bool, true, false, ◌==◌, cond, List, [], ◌∷◌, ◌++◌, length, take, drop, Some, inl, inr, refl, sym, ap, subst, arith, ne_eqb, le-leb, take_all, pos, ◌-ℤ◌, to_z, of_z}
+use Rattle.std.proofs.Common.{◌≡◌, ◌∙◌, ℕ, ℤ, ◌-◌, ◌<◌, ◌≤◌, Bool, true, false, ◌==◌, List, [], ◌∷◌, ◌++◌, length, take, drop, Some, inl, inr, refl, sym, ap, subst, arith, ne_eqb, le-leb, take_all, pos, ◌-ℤ◌, to_z, of_z}
 use Rattle.std.proofs.lemmas.Bool.{and_from, eqb-true, cases_Bool}
 use Rattle.std.proofs.Math.Seq.{drop-length}
 use Rattle.std.proofs.lemmas.Str.Parse.{digit_from_value}
@@ -10,21 +10,17 @@ use Rattle.std.specs.Prelude.{slice_index}
 use Rattle.std.specs.List.{prefix_len, list_all}
 use Rattle.std.specs.Str.{IsUtf8}
 use Rattle.std.specs.Str.Parse.{AllDigits}
-use Rattle.json.specs.Json as json
-use Rattle.json.specs.Lex.{Lexeme, token, between, in_word, other, class, lex, fresh, punctuate, tokens}
-use Rattle.json.specs.Token.{Token, number, boolean, null}
-use Rattle.json.specs.Word.{after_digits, after_minus, after_whole, after_fraction, after_exponent, after_number, word}
+use Rattle.json.specs.Lex.{token, between, in_word, lex, punctuate, tokens}
+use Rattle.json.specs.Token.{number, boolean, null}
+use Rattle.json.specs.Word.{after_digits, after_minus, after_whole, after_number, word}
 use Rattle.json.proofs.OnLiterals.{json_on_literals}
-use Rattle.jv_cut.specs.declared.nesting.Quote.TheVariants.{Outside}
 use Rattle.jv_meaning.proofs.shared.Ascii.{ascii_utf8}
 use Rattle.jv_meaning.specs.Value.{Value}
 use Rattle.jv_meaning.specs.Value as values
-use Rattle.jv_text.specs.Numbers.{whole_numbers}
-use Rattle.jv_text.specs.private.PlainTokens.{IsPlain, IsPlainNumber, IsShortNumber, IsSmallText}
+use Rattle.jv_text.specs.private.PlainTokens.{IsShortNumber, IsSmallText}
 use Rattle.jv_text.specs.private.Runs.{AreShort, IsShort}
 use Rattle.jv_number.specs.laws.Numbers.{TestIsTheGrammar, ValueSolves}
 use Rattle.jv_text.proofs.Short.{plain_positive, plain_negative}
-use Rattle.jv_text.specs.private.Tokens.{IsValueRead}
 use Rattle.jv_text.proofs.Taken.{taken_null, taken_boolean, taken_number, all_read}
 use Rattle.jv_text.proofs.TokenRuns.{AllOther, digit_is_other, took_first, took_none, took_all}
 

@@ -23,6 +23,9 @@ use std::str;
 // How many arrays and objects may be nested.
 const MAX_NESTING: usize = 127;
 
+// The length of `-` and 18 digits.
+const SMALL: usize = 19;
+
 // The buffer of a text of at most this many bytes is kept for the texts after it.
 const KEPT_ROOM: usize = 1_048_576;
 
@@ -57,6 +60,9 @@ pub(crate) fn read_tokens(alloc: Global, text: &[u8], buffers: &mut Buffers) -> 
 fn small_value(text: &[u8]) -> Option<Val>
     ensures { IfSome result (λ v. IsSmallText text.now (view v)) }
 {
+    if text.len() > SMALL {
+        return None;
+    }
     match short_number(text) {
         Some(n) => Some(Val::Num(n)),
         None => literal(text),
