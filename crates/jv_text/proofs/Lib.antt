@@ -7,6 +7,7 @@ pub mod Runs
 pub mod RunTexts
 pub mod TokenRuns
 pub mod Short
+pub mod SmallTexts
 pub mod Streams
 pub mod TextSteps
 pub mod FieldTexts

@@ -107,7 +107,7 @@ one : (c : ℕ) (t : List ℕ) → class c ≡ other → (head t == c) ≡ true 
 one c [] k e = none []
 one c (x ∷ xs) k e = record { front = x ∷ []; is = refl; others = (ap (λ y. class y) (eqb-true x c e) ∙ k, tt) }
 
-digit_is_other : (x : ℕ) → is_ascii_digit x ≡ true → class x ≡ other
+pub digit_is_other : (x : ℕ) → is_ascii_digit x ≡ true → class x ≡ other
 digit_is_other x h =
     let both = and_parts _ _ h in
     let low : 48 ≤ x = leb-true 48 x both.0 in

@@ -6,7 +6,7 @@ ghost use Rattle.std.specs.Str.Parse.{AllDigits, digits_value};
 ghost use Rattle.json.specs.Word.{head};
 ghost use Rattle.jv_cut.specs.declared.nesting.Quote.TheVariants.{Outside};
 ghost use Rattle.jv_text.specs.Numbers.{run_text, is_in_run, whole_numbers};
-ghost use Rattle.jv_text.specs.private.PlainTokens.{IsPlainNumber};
+ghost use Rattle.jv_text.specs.private.PlainTokens.{IsShortNumber};
 ghost use Rattle.jv_text.specs.private.Runs.{is_minus, IsShort, NumberIs};
 ghost use Rattle.jv_text.specs.private.Unreadable.{Reads};
 
@@ -66,7 +66,7 @@ pub(crate) fn has_minus(text: &[u8]) -> bool
 
 /// The value of a run that is a whole number of at most 18 digits in the form in which it is printed.
 pub(crate) fn short_number(run: &[u8]) -> Option<i64>
-    ensures { IfSome result (λ n. IsPlainNumber run.now n) }
+    ensures { IfSome result (λ n. IsShortNumber run.now n) }
 {
     number_test_is_the_grammar();
     value_solves_the_equation();

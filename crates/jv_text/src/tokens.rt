@@ -9,7 +9,7 @@ ghost use Rattle.jv_data.specs.View.{view, items_view};
 ghost use Rattle.jv_cut.specs.declared.nesting.Quote.TheVariants.{Outside};
 ghost use Rattle.jv_text.specs.Numbers.{run_text, whole_numbers};
 ghost use Rattle.jv_text.specs.Plain.{plain_value};
-ghost use Rattle.jv_text.specs.private.PlainTokens.{KeepsPlain, IsPlainNumber};
+ghost use Rattle.jv_text.specs.private.PlainTokens.{KeepsPlain, IsPlainNumber, IsSmallText};
 ghost use Rattle.jv_text.specs.private.Tokens.{IsValueRead, AreItemsRead, AreMembersRead};
 
 use crate::numbers::{has_minus, is_printed, short_number};
@@ -22,6 +22,9 @@ use std::str;
 
 // How many arrays and objects may be nested.
 const MAX_NESTING: usize = 127;
+
+// The length of `-` and 18 digits.
+const SMALL: usize = 19;
 
 // The buffer of a text of at most this many bytes is kept for the texts after it.
 const KEPT_ROOM: usize = 1_048_576;
@@ -44,6 +47,44 @@ impl Buffers {
 
 /// The value of a text whose numbers are all in the form in which whole numbers are printed. It refuses other texts.
 pub(crate) fn read_tokens(alloc: Global, text: &[u8], buffers: &mut Buffers) -> Result<Val, Unread>
+    ensures value { IfOk result (λ v. plain_value text.now ≡ Some (view v)) }
+    ensures plain { OnOk result (whole_numbers Outside [] text.now ≡ Some text.now) }
+{
+    match small_value(text) {
+        Some(value) => Ok(value),
+        None => read_text(alloc, text, buffers),
+    }
+}
+
+// The value of a text that is one number of at most 18 digits, or a literal. Most lines of numbers are such texts.
+fn small_value(text: &[u8]) -> Option<Val>
+    ensures { IfSome result (λ v. IsSmallText text.now (view v)) }
+{
+    if text.len() > SMALL {
+        return None;
+    }
+    match short_number(text) {
+        Some(n) => Some(Val::Num(n)),
+        None => literal(text),
+    }
+}
+
+// The value of one of the three literals.
+fn literal(text: &[u8]) -> Option<Val>
+    ensures { IfSome result (λ v. IsSmallText text.now (view v)) }
+{
+    if text == b"null".as_slice() {
+        Some(Val::Null)
+    } else if text == b"true".as_slice() {
+        Some(Val::Bool(true))
+    } else if text == b"false".as_slice() {
+        Some(Val::Bool(false))
+    } else {
+        None
+    }
+}
+
+fn read_text(alloc: Global, text: &[u8], buffers: &mut Buffers) -> Result<Val, Unread>
     ensures value { IfOk result (λ v. plain_value text.now ≡ Some (view v)) }
     ensures plain { OnOk result (whole_numbers Outside [] text.now ≡ Some text.now) }
 {

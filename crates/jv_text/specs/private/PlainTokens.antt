@@ -1,9 +1,14 @@
 -- The tokens of a text whose numbers are in the form in which whole numbers are printed. For private contracts.
 use Rattle.std.specs.Prelude.{◌≡◌, ℕ, ℤ, List, [], ◌∷◌, Some, option_and_then}
+use Rattle.std.specs.Str.{IsUtf8}
+use Rattle.json.specs.Lex.{tokens}
 use Rattle.json.specs.Token.{Token, begin_object, end_object, begin_array, end_array, key, string, number, boolean, null, bad}
 use Rattle.serde_json.specs.Find.{as_i64}
 use Rattle.serde_json.specs.Read.{number_of}
-use Rattle.jv_text.specs.Numbers.{run_text}
+use Rattle.jv_cut.specs.declared.nesting.Quote.TheVariants.{Outside}
+use Rattle.jv_meaning.specs.Value.{Value}
+use Rattle.jv_text.specs.Numbers.{run_text, whole_numbers}
+use Rattle.jv_text.specs.Plain.{plain_value}
 
 -- the token is no fault, and a number is in printed form
 abbrev pub IsPlain : Token → Type 0
@@ -30,3 +35,14 @@ pub record KeepsPlain (old new : List Token) : Type 0 where
 pub record IsPlainNumber (text : List ℕ) (z : ℤ) : Type 0 where
   pub plain : run_text text ≡ Some text
   pub value : option_and_then as_i64 (number_of text) ≡ Some z
+
+-- a text that is one number in printed form, and its value
+pub record IsShortNumber (text : List ℕ) (z : ℤ) : Type 0 where
+  pub printed : IsPlainNumber text z
+  pub alone : tokens text ≡ number text ∷ []
+  pub utf8 : IsUtf8 text
+
+-- a text whose numbers are in printed form, and its value
+pub record IsSmallText (text : List ℕ) (v : Value) : Type 0 where
+  pub value : plain_value text ≡ Some v
+  pub plain : whole_numbers Outside [] text ≡ Some text
