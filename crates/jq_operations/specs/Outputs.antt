@@ -1,7 +1,6 @@
 -- The runs that the outputs of an operation represent.
 use Rattle.std.specs.Prelude.{◌≡◌, ℕ, List, ◌++◌, map, reverse, Ok, Err}
-use Rattle.jv_data.specs.Shared.{string_in}
-use Rattle.jv_meaning.specs.Text.{text_of}
+use Rattle.jv_data.specs.Shared.{text_in}
 use Rattle.jv_data.specs.View.{view}
 use Rattle.jv_text.specs.Formats.{Text}
 use Rattle.jq_meaning.specs.Runs.{Run, Done, Stopped, ended, none, one, fail}
@@ -24,5 +23,5 @@ outputs_of (outputs.Stopped s) = ended (Stopped (stop_of s))
 
 -- a text between two others, or its error
 abbrev pub Inserts : (front : List ℕ) → Text → (back : List ℕ) → Inserted → Type 0
-Inserts front text back (inserted.Text t) = (s : List ℕ) × (text ≡ Ok s) × (text_of (string_in t) ≡ front ++ (s ++ back))
+Inserts front text back (inserted.Text t) = (s : List ℕ) × (text ≡ Ok s) × (text_in t ≡ front ++ (s ++ back))
 Inserts front text back (inserted.Error v) = text ≡ Err (view v)

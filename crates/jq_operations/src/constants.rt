@@ -1,6 +1,6 @@
 // Values that the language itself makes: constants, keys and errors.
 ghost use Rattle.std.specs.Prelude.{◌≡◌, IfOk, codes};
-ghost use Rattle.jv_data.specs.Shared.{string_in};
+ghost use Rattle.jv_data.specs.Shared.{text_in};
 ghost use Rattle.jv_meaning.specs.Value.{string};
 ghost use Rattle.jv_meaning.specs.Text.{text_of};
 ghost use Rattle.jv_data.specs.View.{view};
@@ -21,7 +21,7 @@ pub fn literal(literal: &Literal) -> Result<Val, NoMemory>
 
 /// The key of an entry, as a shared text.
 pub fn entry_key(key: &Key) -> Result<SharedText, NoMemory>
-    ensures { IfOk result (λ t. text_of (string_in t) ≡ key_of key.now) }
+    ensures { IfOk result (λ t. text_in t ≡ key_of key.now) }
 {
     match key.value() {
         Val::Text(text) => Ok(text.share()?),

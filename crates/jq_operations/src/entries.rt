@@ -2,8 +2,7 @@
 ghost use Rattle.std.specs.Prelude.{◌≡◌, ◌<◌, IfOk};
 ghost use Rattle.jv_data.specs.Held.{members_in};
 ghost use Rattle.jv_meaning.specs.Members.{put};
-ghost use Rattle.jv_data.specs.Shared.{string_in};
-ghost use Rattle.jv_meaning.specs.Text.{text_of};
+ghost use Rattle.jv_data.specs.Shared.{text_in};
 ghost use Rattle.jv_data.specs.View.{view};
 ghost use Rattle.jq_machine.specs.Evaluating as machine;
 ghost use Rattle.jq_state.specs.Environments.{count_of};
@@ -62,7 +61,7 @@ pub fn with_member(
     key: &SharedText,
     value: Val,
 ) -> Result<Object<Val>, NoMemory>
-    ensures { IfOk result (λ o. members_in o ≡ put (text_of (string_in key.now)) (view value) (members_in made)) }
+    ensures { IfOk result (λ o. members_in o ≡ put (text_in key.now) (view value) (members_in made)) }
 {
     made.insert(String::from_str(alloc, key.as_str())?, value)?;
     Ok(made)

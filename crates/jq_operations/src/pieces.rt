@@ -1,7 +1,6 @@
 // Strings that are built from their end.
 ghost use Rattle.std.specs.Prelude.{◌<◌, IfOk, map, reverse, []};
-ghost use Rattle.jv_data.specs.Shared.{string_in};
-ghost use Rattle.jv_meaning.specs.Text.{text_of};
+ghost use Rattle.jv_data.specs.Shared.{text_in};
 ghost use Rattle.jq_ast.specs.Named.{name_of};
 ghost use Rattle.jq_machine.specs.Evaluating as machine;
 ghost use Rattle.jq_state.specs.Environments.{count_of};
@@ -33,7 +32,7 @@ pub fn next_hole<'p>(
     input: Item,
 ) -> Result<Next<'p>, NoMemory>
     requires { scope.env < count_of state.old.nodes }
-    ensures { IfOk result (λ n. ComesTo (λ inputs. machine.next_hole (name_of format.now) (text_of (string_in back)) (reverse (map hole_of earlier.now)) (scope_in (envs_in inputs state.old) scope) (item_of input) (frames_in inputs state.old) (forks_in inputs state.old)) state.new n) }
+    ensures { IfOk result (λ n. ComesTo (λ inputs. machine.next_hole (name_of format.now) (text_in back) (reverse (map hole_of earlier.now)) (scope_in (envs_in inputs state.old) scope) (item_of input) (frames_in inputs state.old) (forks_in inputs state.old)) state.new n) }
 {
     let Some((piece, earlier)) = earlier.split_last() else {
         return Ok(Next::Give(Item::plain(Val::Text(back))));

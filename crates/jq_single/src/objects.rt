@@ -1,7 +1,6 @@
 // Objects that are made, entry by entry.
 ghost use Rattle.jv_data.specs.Held.{members_in};
-ghost use Rattle.jv_data.specs.Shared.{string_in};
-ghost use Rattle.jv_meaning.specs.Text.{text_of};
+ghost use Rattle.jv_data.specs.Shared.{text_in};
 ghost use Rattle.jv_data.specs.View.{view};
 ghost use Rattle.jq_ast.specs.Named.{named, named_entry};
 ghost use Rattle.jq_tree.specs.Tree.{more_entries};
@@ -111,7 +110,7 @@ impl<'s> Context<'s> {
         made: Object<Val>,
         value: &Val,
     ) -> Result<Val, Stop>
-        ensures { RunsMember self.now (text_of (string_in key.now)) (named filter.now) (named_entries later.now) (members_in made) (view value.now) result }
+        ensures { RunsMember self.now (text_in key.now) (named filter.now) (named_entries later.now) (members_in made) (view value.now) result }
     {
         let found = self.get(filter, value)?;
         let longer = with_member(self.alloc, made, key, found)?;

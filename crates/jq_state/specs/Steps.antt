@@ -1,7 +1,7 @@
 -- The machine's frame that the step of a frame represents.
 use Rattle.std.specs.Prelude.{List, map, reverse}
 use Rattle.jv_data.specs.Held.{values_in, members_in}
-use Rattle.jv_data.specs.Shared.{string_in}
+use Rattle.jv_data.specs.Shared.{text_in}
 use Rattle.jv_meaning.specs.Value.{string}
 use Rattle.jv_meaning.specs.Text.{text_of}
 use Rattle.jv_data.specs.View.{view}
@@ -71,11 +71,11 @@ builtin_of builtin.Halts = builtins.halts
 builtin_of (builtin.Native f) = builtins.native f
 
 abbrev pub making_in : Making → machine.Scope → machine.Frame
-making_in (making.EntryValue key later made v) p = machine.entry_value (text_of (string_in key)) (named_entries later.now) (members_in made) p (view v)
+making_in (making.EntryValue key later made v) p = machine.entry_value (text_in key) (named_entries later.now) (members_in made) p (view v)
 making_in (making.EntryKey value later made v) p = machine.entry_key (named value.now) (named_entries later.now) (members_in made) p (view v)
 making_in (making.OwnEntry later made v) p = machine.own_entry (named_entries later.now) (members_in made) p (view v)
 making_in (making.Hole format front back earlier x) p =
-    machine.hole (name_of format.now) (text_of front.now) (text_of (string_in back)) (reverse (map hole_of earlier.now)) p (item_of x)
+    machine.hole (name_of format.now) (text_of front.now) (text_in back) (reverse (map hole_of earlier.now)) p (item_of x)
 making_in (making.Argument f later known x) p = machine.argument (builtin_of f) (tree.trees_of (map named later.now)) (values_in known) p (item_of x)
 
 abbrev pub fold_of : Fold → machine.Fold

@@ -2,7 +2,7 @@
 ghost use Rattle.std.specs.Prelude.{◌≡◌, ◌++◌, ◌<◌, IfOk, OnOk, pos};
 ghost use Rattle.std.specs.Str.{chars};
 ghost use Rattle.jv_data.specs.Fails.{AnswersAs};
-ghost use Rattle.jv_data.specs.Shared.{string_in};
+ghost use Rattle.jv_data.specs.Shared.{text_in};
 ghost use Rattle.jv_meaning.specs.Text.{text_of};
 ghost use Rattle.jv_arith.specs.Strings.{copies, repeated};
 
@@ -15,7 +15,7 @@ const REPEAT_LIMIT: u64 = 268_435_456;
 
 /// Appends the right text to the left one, in place if that is not shared.
 pub(crate) fn append(left: &mut SharedText, right: &SharedText) -> Result<(), AllocError>
-    ensures { OnOk result (text_of (string_in left.new) ≡ text_of (string_in left.old) ++ text_of (string_in right.now)) }
+    ensures { OnOk result (text_in left.new ≡ text_in left.old ++ text_in right.now) }
 {
     left.push_str(right.as_str())?;
     Ok(())
@@ -23,7 +23,7 @@ pub(crate) fn append(left: &mut SharedText, right: &SharedText) -> Result<(), Al
 
 /// The text repeated `count` times, or null for a count below 1.
 pub(crate) fn repeated(alloc: Global, text: &SharedText, count: &i64) -> Result<Val, Fail>
-    ensures { AnswersAs result (repeated (text_of (string_in text.now)) count.now) }
+    ensures { AnswersAs result (repeated (text_in text.now) count.now) }
 {
     match u64::try_from(*count) {
         Ok(count) if count > 0 => repeated_once_at_least(alloc, text.as_str(), count),

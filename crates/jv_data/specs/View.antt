@@ -1,7 +1,7 @@
 -- The meaning of a `Val` as a value.
 use Rattle.std.specs.Prelude.{List, [], ◌∷◌, map, String}
 use Rattle.std.specs.declared.alloc.Global.{Global}
-use Rattle.jv_data.specs.Shared.{string_in, items_in, entries_in}
+use Rattle.jv_data.specs.Shared.{text_in, items_in, entries_in}
 use Rattle.jv_meaning.specs.Text.{text_of}
 use Rattle.jv_meaning.specs.Value.{Value, null, boolean, number, string, array, object, Items, Members, no_members, member, items_of}
 use Rattle.jv_data.specs.declared.values.Val.{Val, fold-Val}
@@ -16,7 +16,7 @@ abbrev pub view_step : Val-F Value → Value
 view_step Val-F.Null = null
 view_step (Val-F.Bool b) = boolean b
 view_step (Val-F.Num n) = number n
-view_step (Val-F.Text t) = string (text_of (string_in t))
+view_step (Val-F.Text t) = string (text_in t)
 view_step (Val-F.List a) = array (items_of (items_in a))
 view_step (Val-F.Table o) = object (members_of (entries_in o))
 

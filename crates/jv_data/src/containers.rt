@@ -1,11 +1,13 @@
 // Strings, arrays and objects that several values share. A change of a shared one copies one level first.
 mod arrays;
+mod characters;
 mod drafts;
 mod iterating;
 mod members;
 mod names;
 mod objects;
 mod sharing;
+mod short;
 mod slots;
 mod texts;
 

@@ -5,7 +5,7 @@ ghost use Rattle.std.specs.List.{list_all};
 ghost use Rattle.std.specs.Str.{chars};
 ghost use Rattle.jv_data.specs.Held.{values_in, members_in};
 ghost use Rattle.jv_data.specs.Kind.{kind_of, kind_name};
-ghost use Rattle.jv_data.specs.Shared.{string_in};
+ghost use Rattle.jv_data.specs.Shared.{text_in};
 ghost use Rattle.jv_meaning.specs.Value.{string, array, object, items_of};
 ghost use Rattle.jv_meaning.specs.Text.{text_of};
 ghost use Rattle.jv_data.specs.View.{view};
@@ -65,13 +65,13 @@ impl Val {
     pub fn from_text(alloc: Global, text: &str) -> Result<Val, AllocError>
         ensures { IfOk result (λ v. view v ≡ string (chars text.now)) }
     {
-        Val::from_string(alloc, String::from_str(alloc, text)?)
+        Ok(Val::Text(SharedText::from_text(alloc, text)?))
     }
 
     /// The text of a string.
     pub fn into_text(self) -> SharedText
         requires { kind_of (view self) ≡ kind.String }
-        ensures { view self ≡ string (text_of (string_in result)) }
+        ensures { view self ≡ string (text_in result) }
     {
         match self {
             Val::Text(text) => text,

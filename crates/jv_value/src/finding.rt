@@ -4,9 +4,8 @@ ghost use Rattle.std.specs.List.{flat_map, range_with_len};
 ghost use Rattle.std.specs.Str.{chars};
 ghost use Rattle.jv_data.specs.Fails.{FailsAs, raised};
 ghost use Rattle.jv_data.specs.Held.{members_in};
-ghost use Rattle.jv_data.specs.Shared.{string_in};
+ghost use Rattle.jv_data.specs.Shared.{text_in};
 ghost use Rattle.jv_meaning.specs.Value.{Items, array, items_of, number, object, string};
-ghost use Rattle.jv_meaning.specs.Text.{text_of};
 ghost use Rattle.jv_data.specs.View.{view};
 ghost use Rattle.jv_value.specs.ErrorTexts.{cannot_index, key_name};
 ghost use Rattle.jv_value.specs.private.FoundLocations.{FindsLocations};
@@ -105,7 +104,7 @@ fn step_to_member<'a>(
     members: &'a Object<Val>,
     name: &SharedText,
 ) -> Result<Option<(Step, Place<'a>)>, Fail>
-    ensures { TakesStep (object (members_in members.now)) (string (text_of (string_in name.now))) result }
+    ensures { TakesStep (object (members_in members.now)) (string (text_in name.now)) result }
 {
     match members.get(name.as_str()) {
         None => Ok(None),

@@ -1,8 +1,7 @@
 -- The outputs of the parts of objects and strings.
 use Rattle.std.specs.Prelude.{◌≡◌, ℕ, List, Result, Ok, Err}
-use Rattle.jv_data.specs.Shared.{string_in}
+use Rattle.jv_data.specs.Shared.{text_in}
 use Rattle.jv_meaning.specs.Value.{Value, Members}
-use Rattle.jv_meaning.specs.Text.{text_of}
 use Rattle.jv_data.specs.declared.containers.texts.SharedText.{SharedText}
 use Rattle.jv_data.specs.declared.values.Val.{Val}
 use Rattle.jq_tree.specs.Tree.{Name, Tree, Entries, Pieces}
@@ -38,7 +37,7 @@ RunsKeyed p key t es made v result =
 
 -- A text that is the only output of a run, or a run without output.
 abbrev pub TextAnswers : Result SharedText Stop → Run (List ℕ) → Type 0
-TextAnswers (Ok t) r = r ≡ one (text_of (string_in t))
+TextAnswers (Ok t) r = r ≡ one (text_in t)
 TextAnswers (Err s) r = Ends s r
 
 abbrev pub RunsPieces : Context → (format : Name) → Pieces → Value → Result SharedText Stop → Type 0

@@ -1,9 +1,8 @@
 -- The view of a `Val` of each form, by its contents.
 use Rattle.std.proofs.Common.{◌≡◌, ◌∙◌, ℤ, Bool, List, [], ◌∷◌, map, zip, refl, sym, ap, rules}
 use Rattle.jv_data.specs.Held.{values_in, members_in, members_of_value}
-use Rattle.jv_data.specs.Shared.{string_in, entries_held, entries_in}
+use Rattle.jv_data.specs.Shared.{text_in, entries_held, entries_in}
 use Rattle.jv_meaning.specs.Value.{null, boolean, number, string, array, object, items_of}
-use Rattle.jv_meaning.specs.Text.{text_of}
 use Rattle.jv_data.specs.View.{view, members_view}
 use Rattle.jv_data.specs.declared.containers.members.Members.{Members}
 use Rattle.jv_data.specs.declared.containers.members.Members.TheVariants.{Few, Many}
@@ -22,7 +21,7 @@ view-Bool b = search (rules, the_lemmas)
 pub view-Num : (n : ℤ) → view (val.Num n) ≡ number n
 view-Num n = search (rules, the_lemmas)
 
-pub view-Text : (t : SharedText) → view (val.Text t) ≡ string (text_of (string_in t))
+pub view-Text : (t : SharedText) → view (val.Text t) ≡ string (text_in t)
 view-Text t = search (rules, the_lemmas)
 
 pub view-List : (a : Array Val) → view (val.List a) ≡ array (items_of (values_in a))

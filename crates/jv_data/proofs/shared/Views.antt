@@ -2,12 +2,15 @@
 use Rattle.std.proofs.Common.{◌≡◌, ◌∙◌, suc, List, [], ◌∷◌, length, map, String, Global, string_bytes, refl, ap}
 use Rattle.std.proofs.lemmas.List.{length-map}
 use Rattle.std.proofs.lemmas.Str.{encodes-chars, IsUtf8-string_bytes}
-use Rattle.std.specs.Prelude.{encode_utf8_all}
+use Rattle.std.proofs.Math.Logic.{∥∥₁_elim}
+use Rattle.std.specs.Prelude.{encode_utf8_all, IsUtf8}
+use Rattle.core.proofs.str.Laws.{IsUtf8-prop}
 use Rattle.jv_meaning.proofs.Items.{values_of-items_of}
 use Rattle.jv_meaning.specs.Value.{values_of, keys}
-use Rattle.jv_meaning.specs.Text.{text_of}
 use Rattle.jv_data.specs.View.{view, items_view, members_view}
-use Rattle.jv_data.specs.Shared.{string_in, bytes_in, items_in, entries_in}
+use Rattle.jv_data.specs.Shared.{bytes_held, bytes_in, text_in, items_in, entries_in}
+use Rattle.jv_data.specs.declared.containers.characters.Characters.{Characters}
+use Rattle.jv_data.specs.declared.containers.characters.Characters.TheVariants.{Short, Long}
 use Rattle.jv_data.specs.declared.containers.texts.SharedText.{SharedText}
 use Rattle.jv_data.specs.declared.containers.arrays.Array.{Array}
 use Rattle.jv_data.specs.declared.containers.objects.Object.{Object}
@@ -27,6 +30,14 @@ names-count (e ∷ es) = ap suc (names-count es)
 pub length-Table : (o : Object Val) → length (keys (members_view (entries_in o))) ≡ length (entries_in o)
 length-Table o = names-count (entries_in o)
 
+-- a text is UTF-8
+held_utf8 : (c : Characters) → IsUtf8 (bytes_held c)
+held_utf8 (Short s) = ∥∥₁_elim s.utf8 (IsUtf8-prop s.text.bytes) (λ h. h)
+held_utf8 (Long s) = IsUtf8-string_bytes s
+
+pub text_utf8 : (t : SharedText) → IsUtf8 (bytes_in t)
+text_utf8 t = held_utf8 t.text.value
+
 -- the bytes of a text's code points
-pub bytes_back : (t : SharedText) → encode_utf8_all (text_of (string_in t)) ≡ bytes_in t
-bytes_back t = encodes-chars (string_bytes (string_in t)) (IsUtf8-string_bytes (string_in t))
+pub bytes_back : (t : SharedText) → encode_utf8_all (text_in t) ≡ bytes_in t
+bytes_back t = encodes-chars (bytes_in t) (text_utf8 t)

@@ -1,14 +1,15 @@
 // Texts that several values share.
 ghost use Rattle.std.specs.Prelude.{◌≡◌, ◌++◌, IfOk, OnErr, OnOk, string_bytes};
-ghost use Rattle.jv_data.specs.Shared.{bytes_in};
+ghost use Rattle.jv_data.specs.Shared.{bytes_held, bytes_in};
 
+use super::characters::Characters;
 use std::alloc::{AllocError, Global};
 use std::rc::Rc;
 
-/// A text with a reference count.
+/// A text with a reference count. A short one stands in the block of memory that holds the count.
 #[derive(Drop)]
 pub struct SharedText {
-    text: Rc<String>,
+    text: Rc<Characters>,
 }
 
 impl SharedText {
@@ -17,7 +18,16 @@ impl SharedText {
         ensures { IfOk result (λ t. bytes_in t ≡ string_bytes text) }
     {
         Ok(SharedText {
-            text: Rc::new(alloc, text)?,
+            text: Rc::new(alloc, Characters::from_string(text))?,
+        })
+    }
+
+    /// A copy of the text, with reference count 1.
+    pub fn from_text(alloc: Global, text: &str) -> Result<SharedText, AllocError>
+        ensures { IfOk result (λ t. bytes_in t ≡ text.now) }
+    {
+        Ok(SharedText {
+            text: Rc::new(alloc, Characters::from_text(alloc, text)?)?,
         })
     }
 
@@ -42,7 +52,6 @@ impl SharedText {
         ensures ok { OnOk result (bytes_in self.new ≡ bytes_in self.old ++ more.now) }
         ensures err { OnErr result (bytes_in self.new ≡ bytes_in self.old) }
     {
-        Rc::make_mut(&mut self.text)?.push_str(more)?;
-        Ok(())
+        Rc::make_mut(&mut self.text)?.push_str(more)
     }
 }

@@ -1,8 +1,7 @@
 use Rattle.std.proofs.Common.{◌≡◌, ◌∙◌, ap, refl, sym, map, Ok, unwrap_or}
 use Rattle.jv_data.specs.Held.{members_in}
 use Rattle.jv_meaning.proofs.Items.{values_of-items_of}
-use Rattle.jv_data.specs.Shared.{items_in, string_in}
-use Rattle.jv_meaning.specs.Text.{text_of}
+use Rattle.jv_data.specs.Shared.{items_in, text_in}
 use Rattle.jv_meaning.specs.Value.{null}
 use Rattle.jv_data.specs.View.{view}
 use Rattle.jv_value.specs.Index.{index_of, item_at, start_in, end_in}
@@ -29,7 +28,7 @@ returns-in-List-Table c =
 
 pub returns-in-Text-Table : goal.returns-in-Text-Table
 returns-in-Text-Table c =
-    let s = text_of (string_in c.in-Text-Table.text) in
+    let s = text_in c.in-Text-Table.text in
     let ms = members_in c.in-Text-Table.bounds in
     let part : index_of (view c.args.value.now) (view c.args.key.now) ≡ slice_of_string s (start_in ms) (end_in ms) =
     rw (c.in-Text-Table.is-0, c.in-Text-Table.is-1, view-Text c.in-Text-Table.text, view-Table c.in-Text-Table.bounds) refl in

@@ -3,7 +3,7 @@ use Rattle.std.proofs.lemmas.Int.{to_z-of_z}
 use Rattle.std.specs.Str.{chars}
 use Rattle.jv_data.specs.Held.{members_in}
 use Rattle.jv_data.proofs.shared.Levels.{view-Bool, view-List}
-use Rattle.jv_data.specs.Shared.{string_in}
+use Rattle.jv_data.specs.Shared.{text_in}
 use Rattle.jv_meaning.specs.Value.{Value, Members, array, items_of, string}
 use Rattle.jv_meaning.specs.Text.{text_of}
 use Rattle.jv_value.specs.Index.{slice_key}
@@ -895,7 +895,7 @@ first_piece-returns t c = λ inputs level.
     let later = pieces_with (below p.depth) (named_pieces c.args.later.now c.args.last.now) f (scope_env inputs p.scope.now) level x in
     let filter = run p inputs level (named piece.tree) x in
     let front = text_of piece.before in
-    let back = text_of (string_in c.in_ok-back.back) in
+    let back = text_in c.in_ok-back.back in
     let expected = format_of f (view c.in_ok-found.found) in
     let made = c.in_ok-text_in_format.field-0 in
     text-bind c.inserted.result later back (on_back f front filter) (c.in_ok-back.ensures inputs level)
@@ -925,7 +925,7 @@ first_piece-returns-in_err-found t c = λ inputs level.
     let filter = run p inputs level (named piece.tree) x in
     let front = text_of piece.before in
     let s = c.in_err-found.field-0.0 in
-    let back = text_of (string_in c.in_ok-back.back) in
+    let back = text_in c.in_ok-back.back in
     text-stops c.from_residual-in_err-found.result s _ c.from_residual-in_err-found.ensures.1
     (ends-after s later back (on_back f front filter) (c.in_ok-back.ensures inputs level)
     (ends-bind s filter (on_inserted f front back) (c.in_err-found.ensures inputs level)))
@@ -971,7 +971,7 @@ member-returns t c = λ inputs level.
     let v = view c.args.value.now in
     let later : Members → Run Item = entries_in p inputs level (named_entries c.args.later.now) v in
     let filter = run p inputs level (named c.args.filter.now) (plain v) in
-    answers-bind c.entries.result filter (plain (view c.in_ok-found.found)) (on_entry later (members_in c.args.made) (text_of (string_in c.args.key.now)))
+    answers-bind c.entries.result filter (plain (view c.in_ok-found.found)) (on_entry later (members_in c.args.made) (text_in c.args.key.now))
     (c.in_ok-found.ensures inputs level)
     (subst (λ (m : Members). Answers c.entries.result (later m)) c.in_ok-longer.ensures (c.entries.ensures inputs level))
 
@@ -982,7 +982,7 @@ member-returns-in_err-found t c = λ inputs level.
     let later : Members → Run Item = entries_in p inputs level (named_entries c.args.later.now) v in
     let filter = run p inputs level (named c.args.filter.now) (plain v) in
     stops c.from_residual.result c.in_err-found.field-0.0 _ c.from_residual.ensures.1
-    (ends-bind c.in_err-found.field-0.0 filter (on_entry later (members_in c.args.made) (text_of (string_in c.args.key.now))) (c.in_err-found.ensures inputs level))
+    (ends-bind c.in_err-found.field-0.0 filter (on_entry later (members_in c.args.made) (text_in c.args.key.now)) (c.in_err-found.ensures inputs level))
 
 -- ---- folds
 
