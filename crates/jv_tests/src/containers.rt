@@ -1,5 +1,5 @@
 // Values that share their contents: each call returns its answer, and a change of one leaves the others unchanged.
-use jv_data::{Array, Object, SharedText, Val, same};
+use jv_data::{Array, Object, SharedText, Val, order, same};
 use jv_text::read_text;
 use std::alloc::Global;
 use std::process::Abort;
@@ -111,5 +111,28 @@ fn texts_are_shared(rt: HostRuntime) -> Result<(), Fail> {
     other.push_str("ö")?;
     assert_eq!(rt; text.as_str(), "aüb");
     assert_eq!(rt; other.as_str(), "aübö");
+    Ok(())
+}
+
+// A text of at most 24 bytes stands in the block of its reference count. A longer one has a block of its own.
+#[test]
+fn texts_grow_out_of_their_block(rt: HostRuntime) -> Result<(), Fail> {
+    let alloc = rt.alloc();
+    let mut text = SharedText::from_text(alloc, "")?;
+    let mut copies = Vec::new(alloc);
+    for _ in 0..10 {
+        copies.push(text.share()?)?;
+        text.push_str("añb")?;
+    }
+    assert_eq!(rt; text.as_str(), "añbañbañbañbañbañbañbañbañbañb");
+    for (count, copy) in copies.iter().enumerate() {
+        assert_eq!(rt; copy.as_str().len(), count.saturating_mul(4));
+        assert!(rt; text.as_str().starts_with(copy.as_str()));
+    }
+    let short = Val::from_string(alloc, String::from_str(alloc, "123456789012345678901234")?)?;
+    let long = Val::from_text(alloc, "1234567890123456789012345")?;
+    assert!(rt; order(&short, &long).is_lt());
+    assert!(rt; same(&short, &read(alloc, "\"123456789012345678901234\"")?));
+    assert!(rt; same(&long, &read(alloc, "\"1234567890123456789012345\"")?));
     Ok(())
 }
