@@ -1,14 +1,14 @@
 -- A tree as the definition's tree with binders, inside a given number of binders.
 --
 -- If a referent does not fit the name, the name is bound nowhere.
-use Rattle.std.specs.Prelude.{ℕ, suc, ◌+◌, ◌-◌, List, [], ◌∷◌, map, length, String, Bool, false, nat_eq, nat_lt, if◌then◌else◌, Option, Some, None}
+use Rattle.std.specs.Prelude.{ℕ, suc, ◌+◌, ◌-◌, List, [], ◌∷◌, map, length, String, Bool, false, nat_lt, if◌then◌else◌, Option, Some, None}
 use Rattle.std.specs.declared.alloc.Global.{Global}
 use Rattle.jv_meaning.specs.Text.{text_of}
 use Rattle.jv_text.specs.declared.formats.names.Format.{Format}
-use Rattle.jv_text.specs.declared.formats.names.Format.TheVariants as format
+use Rattle.jv_text.specs.contracts.formats.names.FormatPartialEq.TheImpl as format_eq
 use Rattle.jv_text.specs.Formats.{format_named}
 use Rattle.jq_natives.specs.declared.native.Native.{Native}
-use Rattle.jq_natives.specs.declared.native.Native.TheVariants as native
+use Rattle.jq_natives.specs.contracts.native.NativePartialEq.TheImpl as native_eq
 use Rattle.jq_natives.specs.Natives.{native_named}
 use Rattle.jq_tree.specs.Names.{Reference, to_function, to_variable, to_label, to_format, same_reference}
 use Rattle.jq_tree.specs.BoundTree.{Binder, bound_at, in_language, nowhere, BoundTree, BoundTrees, BoundPieces, BoundEntry, BoundEntries, BoundPattern, BoundPatterns, BoundPart, BoundParts}
@@ -28,63 +28,20 @@ use Rattle.jq_ast.specs.declared.tree.Member.TheOpen.{Tree-F, Pattern-F, Member-
 
 -- ---- the binder of a name, by its referent
 
--- Different formats have different numbers; so do different natives.
-abbrev pub format_number : Format → ℕ
-format_number format.Plain = 0
-format_number format.Json = 1
-format_number format.Csv = 2
-format_number format.Tsv = 3
-format_number format.Html = 4
-format_number format.Uri = 5
-format_number format.Sh = 6
-format_number format.Base64 = 7
+-- Whether two natives, or two formats, are one: their derived `==`.
+abbrev pub same_native : Native → Native → Bool
+same_native = (native_eq.ghosts).eq
 
-abbrev pub native_number : Native → ℕ
-native_number native.Length = 0
-native_number native.Utf8ByteLength = 1
-native_number native.Keys = 2
-native_number native.KeysUnsorted = 3
-native_number native.Has = 4
-native_number native.Contains = 5
-native_number native.TypeName = 6
-native_number native.Not = 7
-native_number native.ToString = 8
-native_number native.ToJson = 9
-native_number native.ToNumber = 10
-native_number native.FromJson = 11
-native_number native.Explode = 12
-native_number native.Implode = 13
-native_number native.Split = 14
-native_number native.StartsWith = 15
-native_number native.EndsWith = 16
-native_number native.TrimStart = 17
-native_number native.TrimEnd = 18
-native_number native.AsciiDowncase = 19
-native_number native.AsciiUpcase = 20
-native_number native.SortBy = 21
-native_number native.GroupBy = 22
-native_number native.UniqueBy = 23
-native_number native.MinBy = 24
-native_number native.MaxBy = 25
-native_number native.Reverse = 26
-native_number native.Flatten = 27
-native_number native.Indices = 28
-native_number native.Index = 29
-native_number native.LastIndex = 30
-native_number native.Transpose = 31
-native_number native.Error = 32
-native_number native.GetPath = 33
-native_number native.SetPath = 34
-native_number native.DelPaths = 35
-native_number (native.Format f) = 36 + format_number f
+abbrev pub same_format : Format → Format → Bool
+same_format = (format_eq.ghosts).eq
 
 abbrev pub is_native : Native → Option Native → Bool
 is_native f None = false
-is_native f (Some g) = nat_eq (native_number f) (native_number g)
+is_native f (Some g) = same_native g f
 
 abbrev pub is_format : Format → Option Format → Bool
 is_format f None = false
-is_format f (Some g) = nat_eq (format_number f) (format_number g)
+is_format f (Some g) = same_format g f
 
 abbrev pub means_native : Native → Reference → Bool
 means_native f (to_function n arity) = is_native f (native_named n arity)

@@ -1,4 +1,4 @@
--- The natives by name and number of arguments, and what each answers.
+-- The natives by name and number of arguments, and what each answers: a line in `table` and a line in `answer_of_native`.
 use Rattle.std.specs.Prelude.{ℕ, List, [], ◌∷◌, ◌&&◌, bytes_eq, nat_eq, codes, if◌then◌else◌, Option, Some, None, Err}
 use Rattle.jv_meaning.specs.Value.{Value, null}
 use Rattle.jq_natives.specs.declared.native.Native.{Native}
@@ -73,56 +73,43 @@ native_in (r ∷ rs) name arguments =
 abbrev pub native_named : List ℕ → ℕ → Option Native
 native_named = native_in table
 
--- what a native answers without arguments, with one, and with two
-abbrev pub without_arguments : Native → Value → Answer
-without_arguments Length v = length_of v
-without_arguments Utf8ByteLength v = utf8bytelength_of v
-without_arguments Keys v = keys_of v
-without_arguments KeysUnsorted v = keys_of v
-without_arguments TypeName v = type_of v
-without_arguments Not v = not_of v
-without_arguments ToString v = tostring_of v
-without_arguments ToJson v = tojson_of v
-without_arguments ToNumber v = tonumber_of v
-without_arguments FromJson v = fromjson_of v
-without_arguments Explode v = explode_of v
-without_arguments Implode v = implode_of v
-without_arguments AsciiDowncase v = ascii_downcase_of v
-without_arguments AsciiUpcase v = ascii_upcase_of v
-without_arguments Reverse v = reverse_of v
-without_arguments Transpose v = transpose_of v
-without_arguments (native.Format f) v = formatted f v
-without_arguments f v = Err null
-
-abbrev pub with_one : Native → Value → Value → Answer
-with_one Has v a = has_of v a
-with_one Contains v a = contains_of v a
-with_one Split v a = split_native_of v a
-with_one StartsWith v a = startswith_of v a
-with_one EndsWith v a = endswith_of v a
-with_one TrimStart v a = ltrimstr_of v a
-with_one TrimEnd v a = rtrimstr_of v a
-with_one SortBy v a = sort_by_of v a
-with_one GroupBy v a = group_by_of v a
-with_one UniqueBy v a = unique_by_of v a
-with_one MinBy v a = min_by_of v a
-with_one MaxBy v a = max_by_of v a
-with_one Flatten v a = flatten_of v a
-with_one Indices v a = indices_of v a
-with_one Index v a = index_native_of v a
-with_one LastIndex v a = rindex_native_of v a
-with_one Error v a = error_of v a
-with_one GetPath v a = getpath_native_of v a
-with_one DelPaths v a = delpaths_native_of v a
-with_one f v a = Err null
-
-abbrev pub with_two : Native → Value → Value → Value → Answer
-with_two SetPath v a b = setpath_native_of v a b
-with_two f v a b = Err null
-
--- What a native answers for an input and its arguments. With a number of arguments that is not in the table it raises null.
-abbrev pub answer_of_native : Native → Value → List Value → Answer
-answer_of_native f v [] = without_arguments f v
-answer_of_native f v (a ∷ []) = with_one f v a
-answer_of_native f v (a ∷ b ∷ []) = with_two f v a b
-answer_of_native f v (a ∷ b ∷ c ∷ rest) = Err null
+-- What a native answers for an input and its arguments. With another number of arguments it raises null.
+abbrev pub answer_of_native : Native → (input : Value) → (arguments : List Value) → Answer
+answer_of_native Length v [] = length_of v
+answer_of_native Utf8ByteLength v [] = utf8bytelength_of v
+answer_of_native Keys v [] = keys_of v
+answer_of_native KeysUnsorted v [] = keys_of v
+answer_of_native Has v (a ∷ []) = has_of v a
+answer_of_native Contains v (a ∷ []) = contains_of v a
+answer_of_native TypeName v [] = type_of v
+answer_of_native Not v [] = not_of v
+answer_of_native ToString v [] = tostring_of v
+answer_of_native ToJson v [] = tojson_of v
+answer_of_native ToNumber v [] = tonumber_of v
+answer_of_native FromJson v [] = fromjson_of v
+answer_of_native Explode v [] = explode_of v
+answer_of_native Implode v [] = implode_of v
+answer_of_native Split v (a ∷ []) = split_native_of v a
+answer_of_native StartsWith v (a ∷ []) = startswith_of v a
+answer_of_native EndsWith v (a ∷ []) = endswith_of v a
+answer_of_native TrimStart v (a ∷ []) = ltrimstr_of v a
+answer_of_native TrimEnd v (a ∷ []) = rtrimstr_of v a
+answer_of_native AsciiDowncase v [] = ascii_downcase_of v
+answer_of_native AsciiUpcase v [] = ascii_upcase_of v
+answer_of_native SortBy v (a ∷ []) = sort_by_of v a
+answer_of_native GroupBy v (a ∷ []) = group_by_of v a
+answer_of_native UniqueBy v (a ∷ []) = unique_by_of v a
+answer_of_native MinBy v (a ∷ []) = min_by_of v a
+answer_of_native MaxBy v (a ∷ []) = max_by_of v a
+answer_of_native Reverse v [] = reverse_of v
+answer_of_native Flatten v (a ∷ []) = flatten_of v a
+answer_of_native Indices v (a ∷ []) = indices_of v a
+answer_of_native Index v (a ∷ []) = index_native_of v a
+answer_of_native LastIndex v (a ∷ []) = rindex_native_of v a
+answer_of_native Transpose v [] = transpose_of v
+answer_of_native Error v (a ∷ []) = error_of v a
+answer_of_native GetPath v (a ∷ []) = getpath_native_of v a
+answer_of_native SetPath v (a ∷ b ∷ []) = setpath_native_of v a b
+answer_of_native DelPaths v (a ∷ []) = delpaths_native_of v a
+answer_of_native (native.Format f) v [] = formatted f v
+answer_of_native f v other = Err null

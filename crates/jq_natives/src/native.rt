@@ -1,9 +1,20 @@
-// The natives and their names.
-ghost use Rattle.std.specs.Prelude.{◌≡◌};
+// The natives: the name of each, and the function that it calls.
+ghost use Rattle.std.specs.Prelude.{◌≡◌, ◌∷◌, [], map, Err};
 ghost use Rattle.std.specs.Str.{chars};
-ghost use Rattle.jq_natives.specs.Natives.{native_named};
+ghost use Rattle.jv_data.specs.Fails.{AnswersAs, FailsAs};
+ghost use Rattle.jv_data.specs.View.{view};
+ghost use Rattle.jv_meaning.specs.Value.{Value, null};
+ghost use Rattle.jq_natives.specs.Natives.{answer_of_native, native_named};
 
+use crate::containment::contains;
+use crate::errors::raise_value;
+use crate::{
+    arrays, characters, flattening, grouping, kinds, paths, printed, reading, searching, sizes,
+    sorting, texts, transposing,
+};
+use jv_data::{Fail, Val};
 use jv_text::Format;
+use std::alloc::Global;
 
 /// A native function of the language (manual of jq 1.7, "Builtin operators and functions"). The input is not one of the
 /// arguments.
@@ -66,14 +77,14 @@ fn by_bytes(name: &str, arity: usize) -> Option<Native>
     ensures { result ≡ native_named name.now arity }
 {
     match arity {
-        0 => without_arguments(name),
-        1 => with_one(name),
-        2 => with_two(name),
+        0 => named_without_arguments(name),
+        1 => named_with_one(name),
+        2 => named_with_two(name),
         _ => None,
     }
 }
 
-fn without_arguments(name: &str) -> Option<Native>
+fn named_without_arguments(name: &str) -> Option<Native>
     ensures { result ≡ native_named name.now 0 }
 {
     match name {
@@ -97,7 +108,7 @@ fn without_arguments(name: &str) -> Option<Native>
     }
 }
 
-fn with_one(name: &str) -> Option<Native>
+fn named_with_one(name: &str) -> Option<Native>
     ensures { result ≡ native_named name.now 1 }
 {
     match name {
@@ -124,11 +135,113 @@ fn with_one(name: &str) -> Option<Native>
     }
 }
 
-fn with_two(name: &str) -> Option<Native>
+fn named_with_two(name: &str) -> Option<Native>
     ensures { result ≡ native_named name.now 2 }
 {
     match name {
         "setpath" => Some(Native::SetPath),
         _ => None,
     }
+}
+
+/// What a native answers for an input and its arguments: a value, or the error that it raises (manual of jq 1.7,
+/// "Builtin operators and functions"). With another number of arguments than the native takes it raises null.
+pub fn call(alloc: Global, native: Native, value: &Val, arguments: &[Val]) -> Result<Val, Fail>
+    ensures { AnswersAs result (answer_of_native native (view value.now) (map view arguments.now)) }
+{
+    match arguments {
+        [] => without_arguments(alloc, native, value),
+        [argument] => with_one(alloc, native, value, argument),
+        [first, second] => with_two(alloc, native, value, first, second),
+        _ => Err(other_count()),
+    }
+}
+
+/// The same for an owned value. `setpath` and `delpaths` change a value that is not shared in place.
+pub fn call_in_place(
+    alloc: Global,
+    native: Native,
+    value: Val,
+    arguments: &[Val],
+) -> Result<Val, Fail>
+    ensures { AnswersAs result (answer_of_native native (view value) (map view arguments.now)) }
+{
+    match (native, arguments) {
+        (Native::SetPath, [path, new]) => paths::with_part(alloc, value, path, new.copy()?),
+        (Native::DelPaths, [paths]) => paths::without_parts(alloc, value, paths),
+        _ => call(alloc, native, &value, arguments),
+    }
+}
+
+fn without_arguments(alloc: Global, native: Native, value: &Val) -> Result<Val, Fail>
+    ensures { AnswersAs result (answer_of_native native (view value.now) []) }
+{
+    match native {
+        Native::Length => sizes::length(alloc, value),
+        Native::Utf8ByteLength => sizes::utf8bytelength(alloc, value),
+        Native::Keys | Native::KeysUnsorted => sizes::keys(alloc, value),
+        Native::TypeName => Ok(kinds::type_name(alloc, value)?),
+        Native::Not => Ok(kinds::negation(value)),
+        Native::ToString => Ok(printed::tostring(alloc, value)?),
+        Native::ToJson => Ok(printed::tojson(alloc, value)?),
+        Native::ToNumber => reading::tonumber(alloc, value),
+        Native::FromJson => reading::fromjson(alloc, value),
+        Native::Explode => characters::explode(alloc, value),
+        Native::Implode => characters::implode(alloc, value),
+        Native::AsciiDowncase => characters::downcase(alloc, value),
+        Native::AsciiUpcase => characters::upcase(alloc, value),
+        Native::Reverse => arrays::reversed(alloc, value),
+        Native::Transpose => transposing::transposed(alloc, value),
+        Native::Format(format) => printed::formatted(alloc, format, value),
+        _ => Err(other_count()),
+    }
+}
+
+fn with_one(alloc: Global, native: Native, value: &Val, argument: &Val) -> Result<Val, Fail>
+    ensures { AnswersAs result (answer_of_native native (view value.now) (view argument.now ∷ [])) }
+{
+    match native {
+        Native::Has => sizes::has(alloc, value, argument),
+        Native::Contains => contains(alloc, value, argument),
+        Native::Split => texts::parts(alloc, value, argument),
+        Native::StartsWith => texts::startswith(alloc, value, argument),
+        Native::EndsWith => texts::endswith(alloc, value, argument),
+        Native::TrimStart => Ok(texts::ltrimstr(alloc, value, argument)?),
+        Native::TrimEnd => Ok(texts::rtrimstr(alloc, value, argument)?),
+        Native::SortBy => sorting::sort_by(alloc, value, argument),
+        Native::GroupBy => grouping::group_by(alloc, value, argument),
+        Native::UniqueBy => grouping::unique_by(alloc, value, argument),
+        Native::MinBy => sorting::min_by(alloc, value, argument),
+        Native::MaxBy => sorting::max_by(alloc, value, argument),
+        Native::Flatten => flattening::flattened(alloc, value, argument),
+        Native::Indices => searching::indices(alloc, value, argument),
+        Native::Index => searching::index(alloc, value, argument),
+        Native::LastIndex => searching::rindex(alloc, value, argument),
+        Native::Error => Err(raise_value(argument)),
+        Native::GetPath => paths::part_at(alloc, value, argument),
+        Native::DelPaths => paths::without_parts(alloc, value.copy()?, argument),
+        _ => Err(other_count()),
+    }
+}
+
+fn with_two(
+    alloc: Global,
+    native: Native,
+    value: &Val,
+    first: &Val,
+    second: &Val,
+) -> Result<Val, Fail>
+    ensures { AnswersAs result (answer_of_native native (view value.now) (view first.now ∷ view second.now ∷ [])) }
+{
+    match native {
+        Native::SetPath => paths::with_part(alloc, value.copy()?, first, second.copy()?),
+        _ => Err(other_count()),
+    }
+}
+
+// The error of a native that is called with a number of arguments that it does not take.
+fn other_count() -> Fail
+    ensures { FailsAs {A = Value} result (Err null) }
+{
+    Fail::Raised(Val::Null)
 }

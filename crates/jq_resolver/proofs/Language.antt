@@ -9,10 +9,12 @@ use Rattle.jv_text.specs.declared.formats.names.Format.{Format}
 use Rattle.jv_text.specs.declared.formats.names.Format.TheVariants.{Plain, Json, Csv, Tsv, Html, Uri, Sh, Base64}
 use Rattle.jv_text.specs.Formats.{format_named}
 use Rattle.jq_natives.specs.declared.native.Native.{Native}
+use Rattle.jq_natives.specs.contracts.native.NativeEq.TheImpl.Laws as native_laws
+use Rattle.jv_text.specs.contracts.formats.names.FormatEq.TheImpl.Laws as format_laws
 use Rattle.jq_natives.specs.Natives.{NativeEntry, native_in, native_named, table}
 use Rattle.jq_tree.specs.BoundTree.{in_language, nowhere}
 use Rattle.jq_tree.specs.Names.{Reference, to_function, to_format, same_reference, Scope, is_bound, core_names, natives, formats, language}
-use Rattle.jq_ast.specs.Bound.{binder_at, is_native, is_format, native_number, format_number}
+use Rattle.jq_ast.specs.Bound.{binder_at, is_native, is_format}
 use Rattle.jq_ast.specs.declared.names.Core.{Core}
 use Rattle.jq_ast.specs.declared.names.Core.TheVariants.{Empty, Path, Range, RangeBy, Inputs, Halt, HaltError}
 use Rattle.jq_ast.specs.declared.names.Referent.TheVariants as referent
@@ -25,9 +27,6 @@ or_assoc false b c = refl
 or_false : (a : Bool) → (a || false) ≡ a
 or_false true = refl
 or_false false = refl
-
-pub nat_eq-tied : (a b : ℕ) → nat_eq a b ≡ true → a ≡ b
-nat_eq-tied a b e = grind (arith, nat_tests)
 
 pub nat_eq-itself : (a : ℕ) → nat_eq a a ≡ true
 nat_eq-itself a = grind (arith, nat_tests)
@@ -94,7 +93,7 @@ function_bound n a =
 pub at_format : (n : List ℕ) (f : Format) (k : ℕ) → format_named n ≡ Some f
     → binder_at (to_format n) (referent.Format f) k ≡ (if is_bound (to_format n) language then in_language else nowhere)
 at_format n f k h =
-    ap (λ o. if is_format f o then in_language else nowhere) h ∙ ap (λ b. if b then in_language else nowhere) (nat_eq-itself (format_number f))
+    ap (λ o. if is_format f o then in_language else nowhere) h ∙ ap (λ b. if b then in_language else nowhere) (format_laws.laws-law.refl f)
     ∙ ap (λ b. if b then in_language else nowhere) (sym (ap is_some h) ∙ format_bound n)
 
 pub at_no_format : (n : List ℕ) (k : ℕ) → format_named n ≡ None
@@ -104,7 +103,7 @@ at_no_format n k h = ap (λ b. if b then in_language else nowhere) (sym (ap is_s
 pub at_native : (n : List ℕ) (a : ℕ) (f : Native) (k : ℕ) → core_named n a ≡ None → native_named n a ≡ Some f
     → binder_at (to_function n a) (referent.Native f) k ≡ (if is_bound (to_function n a) language then in_language else nowhere)
 at_native n a f k g h =
-    ap (λ o. if is_native f o then in_language else nowhere) h ∙ ap (λ b. if b then in_language else nowhere) (nat_eq-itself (native_number f))
+    ap (λ o. if is_native f o then in_language else nowhere) h ∙ ap (λ b. if b then in_language else nowhere) (native_laws.laws-law.refl f)
     ∙ ap (λ b. if b then in_language else nowhere) (sym (ap (λ o. is_some o || is_some (native_named n a)) g ∙ ap is_some h) ∙ function_bound n a)
 
 pub at_nothing : (n : List ℕ) (a k : ℕ) → core_named n a ≡ None → native_named n a ≡ None

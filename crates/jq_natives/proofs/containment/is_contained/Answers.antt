@@ -1,6 +1,6 @@
 use Rattle.std.proofs.Common.{◌≡◌, ◌∙◌, ap, sym, rules, length}
 use Rattle.std.proofs.lemmas.List.{nil_from_length}
-use Rattle.jq_natives.specs.private.Searches.{after, found_by, leads_to}
+use Rattle.jq_natives.specs.private.Searches.{found_by, leads_to}
 use Rattle.jq_natives.proofs.Searched.{after_all, after_all-last}
 use Rattle.jq_natives.proofs.containment.is_contained.Goals as goal
 

@@ -1,4 +1,4 @@
-use Rattle.std.proofs.Common.{◌∙◌, ap, sym, map, Ok}
+use Rattle.std.proofs.Common.{◌∙◌, ap, sym, Ok}
 use Rattle.std.specs.List.{range_with_len}
 use Rattle.jv_meaning.specs.Value.{array, items_of}
 use Rattle.jv_data.specs.View.{items_view, view}

@@ -3,7 +3,6 @@ use Rattle.jv_text.specs.Formats.{format_named}
 use Rattle.jq_ast.specs.Bound.{is_format, means_format}
 use Rattle.jq_tree.specs.Names.{to_format}
 use Rattle.jq_resolver.specs.private.Waiting.{reference_at}
-use Rattle.jq_resolver.proofs.Referred.{format_means}
 use Rattle.jq_resolver.proofs.unbound.is_format.Goals as goal
 
 pub returns-in-Some : goal.returns-in-Some
@@ -12,7 +11,7 @@ returns-in-Some c =
     let named : format_named (chars name) ≡ Some c.in-Some.found = sym c.format_of.ensures ∙ c.in-Some.is in
     let reference : reference_at c.args.used.sort c.args.used.name.now ≡ to_format (chars name) =
     ap (λ s. reference_at s c.args.used.name.now) c.in-Format.is ∙ ap (λ bs. to_format (chars bs)) (sym c.as_str.ensures.value) in
-    format_means c.args.format c.in-Some.found c.eq.result c.eq.ensures ∙ ap (is_format c.args.format) (sym named) ∙ ap (means_format c.args.format) (sym reference)
+    c.eq.ensures ∙ ap (is_format c.args.format) (sym named) ∙ ap (means_format c.args.format) (sym reference)
 
 pub returns-in-None : goal.returns-in-None
 returns-in-None c =
