@@ -1,10 +1,8 @@
 -- The items, the members and the bytes of a value in the code, from what it represents.
 use Rattle.std.proofs.Common.{◌≡◌, ◌∙◌, suc, List, [], ◌∷◌, length, map, String, Global, string_bytes, refl, ap}
 use Rattle.std.proofs.lemmas.List.{length-map}
-use Rattle.std.proofs.lemmas.Str.{encodes-chars, IsUtf8-string_bytes}
-use Rattle.std.proofs.Math.Logic.{∥∥₁_elim}
+use Rattle.std.proofs.lemmas.Str.{encodes-chars, IsUtf8-had, IsUtf8-string_bytes}
 use Rattle.std.specs.Prelude.{encode_utf8_all, IsUtf8}
-use Rattle.core.proofs.str.Laws.{IsUtf8-prop}
 use Rattle.jv_meaning.proofs.Items.{values_of-items_of}
 use Rattle.jv_meaning.specs.Value.{values_of, keys}
 use Rattle.jv_data.specs.View.{view, items_view, members_view}
@@ -32,7 +30,7 @@ length-Table o = names-count (entries_in o)
 
 -- a text is UTF-8
 held_utf8 : (c : Characters) → IsUtf8 (bytes_held c)
-held_utf8 (Short s) = ∥∥₁_elim s.utf8 (IsUtf8-prop s.text.bytes) (λ h. h)
+held_utf8 (Short s) = IsUtf8-had s.text.bytes s.utf8
 held_utf8 (Long s) = IsUtf8-string_bytes s
 
 pub text_utf8 : (t : SharedText) → IsUtf8 (bytes_in t)
