@@ -7,6 +7,7 @@ pub mod GroupLaws
 pub mod ClosureSorts
 pub mod KeyedAnswers
 pub mod Groups
+pub mod KeysInArrays
 pub mod Turned
 pub mod Within
 pub mod Ranks

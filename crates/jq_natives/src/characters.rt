@@ -12,14 +12,14 @@ use jv_data::{Array, Fail, Val, raise, raise_kind};
 use std::alloc::{AllocError, Global};
 
 /// The code points of a text.
-pub fn characters_of(alloc: Global, text: &str) -> Result<Vec<char>, AllocError>
+pub(crate) fn characters_of(alloc: Global, text: &str) -> Result<Vec<char>, AllocError>
     ensures { IfOk result (λ v. v.items ≡ chars text.now) }
 {
     text.chars().collect(alloc)
 }
 
 /// `explode`: a string's code points as numbers (manual of jq 1.7, "explode").
-pub fn explode(alloc: Global, value: &Val) -> Result<Val, Fail>
+pub(crate) fn explode(alloc: Global, value: &Val) -> Result<Val, Fail>
     ensures { AnswersAs result (explode_of (view value.now)) }
 {
     match value {
@@ -48,7 +48,7 @@ fn number(c: char) -> Val
 }
 
 /// `implode`: the string with these code points (manual of jq 1.7, "implode").
-pub fn implode(alloc: Global, value: &Val) -> Result<Val, Fail>
+pub(crate) fn implode(alloc: Global, value: &Val) -> Result<Val, Fail>
     ensures { AnswersAs result (implode_of (view value.now)) }
 {
     let Val::List(items) = value else {
@@ -90,7 +90,7 @@ fn code_point(value: &Val) -> Option<char>
 }
 
 /// `ascii_downcase`: the string with A to Z as a to z (manual of jq 1.7, "ascii_downcase, ascii_upcase").
-pub fn downcase(alloc: Global, value: &Val) -> Result<Val, Fail>
+pub(crate) fn downcase(alloc: Global, value: &Val) -> Result<Val, Fail>
     ensures { AnswersAs result (ascii_downcase_of (view value.now)) }
 {
     match value {
@@ -100,7 +100,7 @@ pub fn downcase(alloc: Global, value: &Val) -> Result<Val, Fail>
 }
 
 /// `ascii_upcase`: the string with a to z as A to Z (manual of jq 1.7, "ascii_downcase, ascii_upcase").
-pub fn upcase(alloc: Global, value: &Val) -> Result<Val, Fail>
+pub(crate) fn upcase(alloc: Global, value: &Val) -> Result<Val, Fail>
     ensures { AnswersAs result (ascii_upcase_of (view value.now)) }
 {
     match value {

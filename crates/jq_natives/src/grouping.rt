@@ -13,8 +13,8 @@ use std::mem;
 
 /// `_group_by(keys)`: an array of the items of each key, in the order of the keys (manual of jq 1.7,
 /// "group_by(path_expression)").
-pub fn group_by(alloc: Global, value: &Val, keys: &Val) -> Result<Val, Fail>
-    ensures { AnswersAs result (group_by_of (view value.now) (view keys.now)) }
+pub(crate) fn group_by(alloc: Global, value: Val, keys: &Val) -> Result<Val, Fail>
+    ensures { AnswersAs result (group_by_of (view value) (view keys.now)) }
 {
     let text = " cannot be grouped, as it is not an array";
     match sorted(alloc, value, keys, text) {
@@ -28,8 +28,8 @@ pub fn group_by(alloc: Global, value: &Val, keys: &Val) -> Result<Val, Fail>
 
 /// `_unique_by(keys)`: the first item of each key, in the order of the keys (manual of jq 1.7, "unique,
 /// unique_by(path_exp)").
-pub fn unique_by(alloc: Global, value: &Val, keys: &Val) -> Result<Val, Fail>
-    ensures { AnswersAs result (unique_by_of (view value.now) (view keys.now)) }
+pub(crate) fn unique_by(alloc: Global, value: Val, keys: &Val) -> Result<Val, Fail>
+    ensures { AnswersAs result (unique_by_of (view value) (view keys.now)) }
 {
     let text = " cannot be grouped, as it is not an array";
     match sorted(alloc, value, keys, text) {

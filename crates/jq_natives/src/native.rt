@@ -157,7 +157,8 @@ pub fn call(alloc: Global, native: Native, value: &Val, arguments: &[Val]) -> Re
     }
 }
 
-/// The same for an owned value. `setpath` and `delpaths` change a value that is not shared in place.
+/// The same for an owned value. `setpath` and `delpaths` change a value that is not shared in place, and what sorts by keys
+/// moves the items of an array that is not shared.
 pub fn call_in_place(
     alloc: Global,
     native: Native,
@@ -169,6 +170,11 @@ pub fn call_in_place(
     match (native, arguments) {
         (Native::SetPath, [path, new]) => paths::with_part(alloc, value, path, new.copy()?),
         (Native::DelPaths, [paths]) => paths::without_parts(alloc, value, paths),
+        (Native::SortBy, [keys]) => sorting::sort_by(alloc, value, keys),
+        (Native::GroupBy, [keys]) => grouping::group_by(alloc, value, keys),
+        (Native::UniqueBy, [keys]) => grouping::unique_by(alloc, value, keys),
+        (Native::MinBy, [keys]) => sorting::min_by(alloc, value, keys),
+        (Native::MaxBy, [keys]) => sorting::max_by(alloc, value, keys),
         _ => call(alloc, native, &value, arguments),
     }
 }
@@ -208,11 +214,11 @@ fn with_one(alloc: Global, native: Native, value: &Val, argument: &Val) -> Resul
         Native::EndsWith => texts::endswith(alloc, value, argument),
         Native::TrimStart => Ok(texts::ltrimstr(alloc, value, argument)?),
         Native::TrimEnd => Ok(texts::rtrimstr(alloc, value, argument)?),
-        Native::SortBy => sorting::sort_by(alloc, value, argument),
-        Native::GroupBy => grouping::group_by(alloc, value, argument),
-        Native::UniqueBy => grouping::unique_by(alloc, value, argument),
-        Native::MinBy => sorting::min_by(alloc, value, argument),
-        Native::MaxBy => sorting::max_by(alloc, value, argument),
+        Native::SortBy => sorting::sort_by(alloc, value.copy()?, argument),
+        Native::GroupBy => grouping::group_by(alloc, value.copy()?, argument),
+        Native::UniqueBy => grouping::unique_by(alloc, value.copy()?, argument),
+        Native::MinBy => sorting::min_by(alloc, value.copy()?, argument),
+        Native::MaxBy => sorting::max_by(alloc, value.copy()?, argument),
         Native::Flatten => flattening::flattened(alloc, value, argument),
         Native::Indices => searching::indices(alloc, value, argument),
         Native::Index => searching::index(alloc, value, argument),

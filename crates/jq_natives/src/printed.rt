@@ -10,7 +10,7 @@ use jv_text::{Format, format, to_compact_string};
 use std::alloc::Global;
 
 /// `tostring`: a string itself, or another value's JSON text on one line without spaces (manual of jq 1.7, "tostring").
-pub fn tostring(alloc: Global, value: &Val) -> Result<Val, NoMemory>
+pub(crate) fn tostring(alloc: Global, value: &Val) -> Result<Val, NoMemory>
     ensures { IfOk result (λ v. tostring_of (view value.now) ≡ Ok (view v)) }
 {
     match value {
@@ -20,14 +20,14 @@ pub fn tostring(alloc: Global, value: &Val) -> Result<Val, NoMemory>
 }
 
 /// `tojson`: a value's JSON text on one line without spaces (manual of jq 1.7, "tojson, fromjson").
-pub fn tojson(alloc: Global, value: &Val) -> Result<Val, NoMemory>
+pub(crate) fn tojson(alloc: Global, value: &Val) -> Result<Val, NoMemory>
     ensures { IfOk result (λ v. tojson_of (view value.now) ≡ Ok (view v)) }
 {
     Ok(Val::from_string(alloc, to_compact_string(alloc, value)?)?)
 }
 
 /// A format: a value's text in it (manual of jq 1.7, "Format strings and escaping").
-pub fn formatted(alloc: Global, format_name: Format, value: &Val) -> Result<Val, Fail>
+pub(crate) fn formatted(alloc: Global, format_name: Format, value: &Val) -> Result<Val, Fail>
     ensures { AnswersAs result (formatted format_name (view value.now)) }
 {
     match format(alloc, format_name, value) {

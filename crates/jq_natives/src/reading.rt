@@ -15,7 +15,7 @@ use std::alloc::{AllocError, Global};
 
 /// `tonumber`: a number itself, or the exact value of a string that is the text of a number (manual of jq 1.7,
 /// "tonumber").
-pub fn tonumber(alloc: Global, value: &Val) -> Result<Val, Fail>
+pub(crate) fn tonumber(alloc: Global, value: &Val) -> Result<Val, Fail>
     ensures { AnswersAs result (tonumber_of (view value.now)) }
 {
     match value {
@@ -44,7 +44,7 @@ fn number_in(text: &str) -> Option<Val>
 }
 
 /// `fromjson`: the value of a string that is one JSON text (manual of jq 1.7, "tojson, fromjson").
-pub fn fromjson(alloc: Global, value: &Val) -> Result<Val, Fail>
+pub(crate) fn fromjson(alloc: Global, value: &Val) -> Result<Val, Fail>
     ensures { AnswersAs result (fromjson_of (view value.now)) }
 {
     match value {

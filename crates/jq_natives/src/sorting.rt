@@ -1,17 +1,18 @@
 // Sorting and choosing by keys.
-ghost use Rattle.std.specs.Prelude.{◌≡◌, IfOk, MatchResult, Ok, List, map, zip, true};
+ghost use Rattle.std.specs.Prelude.{◌≡◌, IfOk, IfSome, MatchResult, Ok, List, map, zip, true};
 ghost use Rattle.std.specs.Char.{is_ascii};
 ghost use Rattle.std.specs.List.{list_all};
 ghost use Rattle.jv_data.specs.Fails.{AnswersAs, FailsAs};
 ghost use Rattle.jv_meaning.specs.Value.{Value};
 ghost use Rattle.jv_data.specs.View.{view};
-ghost use Rattle.jq_natives.specs.private.SortedItems.{pair_of};
+ghost use Rattle.jq_natives.specs.private.SortedItems.{AreKeysOf, IgnoresArrays, in_array, pair_of};
 ghost use Rattle.jq_natives.specs.Sorting.{Keyed, array_of, first_of_group, keyed_answer, last_of_group, max_by_of, min_by_of, sort_by_of, sorted, unmatched_keys};
 
-use jv_data::{Array, Fail, Val, order, raise, raise_kind};
+use jv_data::{Array, Fail, Val, copies, order, raise, raise_kind};
 use std::alloc::{AllocError, Global};
 
-/// An item of an array with the key that it is sorted by.
+/// An item of an array with the key that it is sorted by, or with the only item of that key where each key is an array of one
+/// item.
 #[derive(Drop)]
 pub(crate) struct KeyedItem {
     pub(crate) key: Val,
@@ -20,8 +21,8 @@ pub(crate) struct KeyedItem {
 
 /// `_sort_by(keys)`: the items in the order of their keys; items with equal keys keep their order (manual of jq 1.7,
 /// "sort, sort_by(path_expression)").
-pub fn sort_by(alloc: Global, value: &Val, keys: &Val) -> Result<Val, Fail>
-    ensures { AnswersAs result (sort_by_of (view value.now) (view keys.now)) }
+pub(crate) fn sort_by(alloc: Global, value: Val, keys: &Val) -> Result<Val, Fail>
+    ensures { AnswersAs result (sort_by_of (view value) (view keys.now)) }
 {
     let text = " cannot be sorted, as it is not an array";
     match sorted(alloc, value, keys, text) {
@@ -32,8 +33,8 @@ pub fn sort_by(alloc: Global, value: &Val, keys: &Val) -> Result<Val, Fail>
 
 /// `_min_by(keys)`: the first item of the least key, or null if there is no item (manual of jq 1.7, "min, max, min_by,
 /// max_by").
-pub fn min_by(alloc: Global, value: &Val, keys: &Val) -> Result<Val, Fail>
-    ensures { AnswersAs result (min_by_of (view value.now) (view keys.now)) }
+pub(crate) fn min_by(alloc: Global, value: Val, keys: &Val) -> Result<Val, Fail>
+    ensures { AnswersAs result (min_by_of (view value) (view keys.now)) }
 {
     match sorted(alloc, value, keys, " has no least or greatest item") {
         Ok(sorted) => Ok(first_item(sorted)),
@@ -43,8 +44,8 @@ pub fn min_by(alloc: Global, value: &Val, keys: &Val) -> Result<Val, Fail>
 
 /// `_max_by(keys)`: the last item of the greatest key, or null if there is no item (manual of jq 1.7, "min, max,
 /// min_by, max_by").
-pub fn max_by(alloc: Global, value: &Val, keys: &Val) -> Result<Val, Fail>
-    ensures { AnswersAs result (max_by_of (view value.now) (view keys.now)) }
+pub(crate) fn max_by(alloc: Global, value: Val, keys: &Val) -> Result<Val, Fail>
+    ensures { AnswersAs result (max_by_of (view value) (view keys.now)) }
 {
     match sorted(alloc, value, keys, " has no least or greatest item") {
         Ok(sorted) => Ok(last_item(sorted)),
@@ -52,17 +53,17 @@ pub fn max_by(alloc: Global, value: &Val, keys: &Val) -> Result<Val, Fail>
     }
 }
 
-/// The items of an array in the order of their keys.
+/// The items of an array in the order of their keys. The items of an array that is not shared are moved.
 pub(crate) fn sorted(
     alloc: Global,
-    value: &Val,
+    value: Val,
     keys: &Val,
     text: &str,
 ) -> Result<Vec<KeyedItem>, Fail>
     requires { list_all is_ascii text.now ≡ true }
     ensures { MatchResult result
-        (λ v. (f : List Keyed → Value) → keyed_answer (λ ps. f (sorted ps)) text.now (view value.now) (view keys.now) ≡ Ok (f (map pair_of v.items)))
-        (λ e. (f : List Keyed → Value) → FailsAs e (keyed_answer f text.now (view value.now) (view keys.now))) }
+        (λ v. (f : List Keyed → Value) → IgnoresArrays f → keyed_answer (λ ps. f (sorted ps)) text.now (view value) (view keys.now) ≡ Ok (f (map pair_of v.items)))
+        (λ e. (f : List Keyed → Value) → FailsAs e (keyed_answer f text.now (view value) (view keys.now))) }
 {
     let mut items = keyed(alloc, value, keys, text)?;
     items.sort_by(|left, right| order(&left.key, &right.key))?;
@@ -70,21 +71,23 @@ pub(crate) fn sorted(
 }
 
 // The items of an array with their keys.
-fn keyed(alloc: Global, value: &Val, keys: &Val, text: &str) -> Result<Vec<KeyedItem>, Fail>
+fn keyed(alloc: Global, value: Val, keys: &Val, text: &str) -> Result<Vec<KeyedItem>, Fail>
     requires { list_all is_ascii text.now ≡ true }
     ensures { MatchResult result
-        (λ v. (f : List Keyed → Value) → keyed_answer f text.now (view value.now) (view keys.now) ≡ Ok (f (map pair_of v.items)))
-        (λ e. (f : List Keyed → Value) → FailsAs e (keyed_answer f text.now (view value.now) (view keys.now))) }
+        (λ v. (f : List Keyed → Value) → IgnoresArrays f → keyed_answer f text.now (view value) (view keys.now) ≡ Ok (f (map pair_of v.items)))
+        (λ e. (f : List Keyed → Value) → FailsAs e (keyed_answer f text.now (view value) (view keys.now))) }
 {
-    match (value, keys) {
+    match (&value, keys) {
         (Val::List(items), Val::List(keys)) => {
             if items.len() != keys.len() {
                 return Err(unmatched_keys(alloc));
             }
-            Ok(pairs(alloc, keys.as_slice(), items.as_slice())?)
+            let keys = compared_keys(alloc, keys.as_slice())?;
+            let items = value.into_list().into_values()?;
+            Ok(pairs(alloc, keys, items)?)
         }
         (Val::List(_), _) => Err(unmatched_keys(alloc)),
-        _ => Err(raise_kind(alloc, value, text)),
+        _ => Err(raise_kind(alloc, &value, text)),
     }
 }
 
@@ -95,19 +98,53 @@ fn unmatched_keys(alloc: Global) -> Fail
     raise(alloc, "keys do not match")
 }
 
-fn pairs(alloc: Global, keys: &[Val], items: &[Val]) -> Result<Vec<KeyedItem>, AllocError>
-    ensures { IfOk result (λ v. map pair_of v.items ≡ zip (map view keys.now) (map view items.now)) }
+// What the items are sorted by: the only item of each key, if each key is an array of one item, and else the keys themselves.
+fn compared_keys(alloc: Global, keys: &[Val]) -> Result<Vec<Val>, AllocError>
+    ensures { IfOk result (λ v. AreKeysOf (map view keys.now) (map view v.items)) }
+{
+    match only_items(alloc, keys)? {
+        Some(items) => Ok(items),
+        None => copies(alloc, keys),
+    }
+}
+
+// The only item of each key, or `None` if a key is no array of one item.
+fn only_items(alloc: Global, keys: &[Val]) -> Result<Option<Vec<Val>>, AllocError>
+    ensures { IfOk result (λ found. IfSome found (λ v. map view keys.now ≡ map in_array (map view v.items))) }
+{
+    let mut items = Vec::with_capacity(alloc, keys.len())?;
+    for key in keys {
+        match only_item(key) {
+            Some(item) => items.push(item.clone()?)?,
+            None => return Ok(None),
+        }
+    }
+    Ok(Some(items))
+}
+
+fn only_item(key: &Val) -> Option<&Val>
+    ensures { IfSome result (λ item. view key.now ≡ in_array (view item.now)) }
+{
+    match key {
+        Val::List(items) => match items.as_slice() {
+            [item] => Some(item),
+            _ => None,
+        },
+        _ => None,
+    }
+}
+
+// Each item with the key at its index.
+fn pairs(alloc: Global, keys: Vec<Val>, items: Vec<Val>) -> Result<Vec<KeyedItem>, AllocError>
+    ensures { IfOk result (λ v. map pair_of v.items ≡ zip (map view keys.items) (map view items.items)) }
 {
     let mut pairs = Vec::with_capacity(alloc, items.len())?;
-    let mut others = items.iter();
+    let mut others = items.into_iter();
     for key in keys {
         let Some(item) = others.next() else {
             return Ok(pairs);
         };
-        pairs.push(KeyedItem {
-            key: key.clone()?,
-            item: item.clone()?,
-        })?;
+        pairs.push(KeyedItem { key, item })?;
     }
     Ok(pairs)
 }

@@ -24,7 +24,7 @@ pub fn parts(alloc: Global, value: &Val, separator: &Val) -> Result<Val, Fail>
 }
 
 /// `startswith(part)`: whether a string begins with the part (manual of jq 1.7, "startswith(str)").
-pub fn startswith(alloc: Global, value: &Val, part: &Val) -> Result<Val, Fail>
+pub(crate) fn startswith(alloc: Global, value: &Val, part: &Val) -> Result<Val, Fail>
     ensures { AnswersAs result (startswith_of (view value.now) (view part.now)) }
 {
     match (value, part) {
@@ -36,7 +36,7 @@ pub fn startswith(alloc: Global, value: &Val, part: &Val) -> Result<Val, Fail>
 }
 
 /// `endswith(part)`: whether a string ends with the part (manual of jq 1.7, "endswith(str)").
-pub fn endswith(alloc: Global, value: &Val, part: &Val) -> Result<Val, Fail>
+pub(crate) fn endswith(alloc: Global, value: &Val, part: &Val) -> Result<Val, Fail>
     ensures { AnswersAs result (endswith_of (view value.now) (view part.now)) }
 {
     match (value, part) {
@@ -48,7 +48,7 @@ pub fn endswith(alloc: Global, value: &Val, part: &Val) -> Result<Val, Fail>
 }
 
 /// `ltrimstr(part)`: the string without that prefix. Any other input is unchanged (manual of jq 1.7, "ltrimstr(str)").
-pub fn ltrimstr(alloc: Global, value: &Val, part: &Val) -> Result<Val, NoMemory>
+pub(crate) fn ltrimstr(alloc: Global, value: &Val, part: &Val) -> Result<Val, NoMemory>
     ensures { IfOk result (λ v. ltrimstr_of (view value.now) (view part.now) ≡ Ok (view v)) }
 {
     match (value, part) {
@@ -61,7 +61,7 @@ pub fn ltrimstr(alloc: Global, value: &Val, part: &Val) -> Result<Val, NoMemory>
 }
 
 /// `rtrimstr(part)`: the string without that suffix. Any other input is unchanged (manual of jq 1.7, "rtrimstr(str)").
-pub fn rtrimstr(alloc: Global, value: &Val, part: &Val) -> Result<Val, NoMemory>
+pub(crate) fn rtrimstr(alloc: Global, value: &Val, part: &Val) -> Result<Val, NoMemory>
     ensures { IfOk result (λ v. rtrimstr_of (view value.now) (view part.now) ≡ Ok (view v)) }
 {
     match (value, part) {

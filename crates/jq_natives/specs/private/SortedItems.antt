@@ -1,9 +1,10 @@
--- The pairs that the code's keyed items represent, and how they are grouped one after the other.
-use Rattle.std.specs.Prelude.{List, [], ◌∷◌, map, Bool, true, Vec}
+-- The pairs that the code's keyed items represent, keys that are each in an array, and how items are grouped one after the other.
+use Rattle.std.specs.Prelude.{◌≡◌, ◌⊎◌, List, [], ◌∷◌, map, Bool, true, Vec}
 use Rattle.std.specs.declared.alloc.Global.{Global}
 use Rattle.jv_data.specs.View.{view}
+use Rattle.jv_meaning.specs.Value.{Value, array, item, no_items}
 use Rattle.jq_natives.specs.Answers.{is_same}
-use Rattle.jq_natives.specs.Sorting.{Keyed, key}
+use Rattle.jq_natives.specs.Sorting.{Keyed, key, kept_item}
 use Rattle.jq_natives.specs.declared.sorting.KeyedItem.{KeyedItem}
 
 abbrev pub pair_of : KeyedItem → Keyed
@@ -16,3 +17,19 @@ groups_in gs = map (λ g. map pair_of g.items) gs
 abbrev pub goes_with : List Keyed → Keyed → Bool
 goes_with [] p = true
 goes_with (q ∷ qs) p = is_same (key q) (key p)
+
+-- an array of this one value
+abbrev pub in_array : Value → Value
+in_array v = array (item v no_items)
+
+-- the item with its key in an array
+abbrev pub key_in_array : Keyed → Keyed
+key_in_array p = (in_array (key p), kept_item p)
+
+-- the keys themselves, or the only item of each
+abbrev pub AreKeysOf : List Value → List Value → Type 0
+AreKeysOf ks vs = (ks ≡ vs) ⊎ (ks ≡ map in_array vs)
+
+-- what f makes of pairs stays the same if each key is put into an array
+abbrev pub IgnoresArrays : (List Keyed → Value) → Type 0
+IgnoresArrays f = (ps : List Keyed) → f (map key_in_array ps) ≡ f ps

@@ -1,11 +1,12 @@
 use Rattle.std.proofs.Common.{◌∙◌, ap, sym, map, Ok}
 use Rattle.jv_meaning.specs.Value.{array, items_of}
 use Rattle.jq_natives.specs.Sorting.{array_of, groups, sorted}
+use Rattle.jq_natives.proofs.KeysInArrays.{array_of_ignores, groups_ignore}
 use Rattle.jq_natives.proofs.grouping.group_by.Goals as goal
 
 pub returns-in_ok-arrays_of_groups-in-Ok : goal.returns-in_ok-arrays_of_groups-in-Ok
 returns-in_ok-arrays_of_groups-in-Ok c =
-    c.in-Ok.ensures (λ ps. array (items_of (map array_of (groups ps))))
+    c.in-Ok.ensures (λ ps. array (items_of (map array_of (groups ps)))) (groups_ignore array_of array_of_ignores)
     ∙ ap Ok (sym (c.in_ok-arrays_of_groups-in-Ok.ensures ∙ ap (λ gs. array (items_of (map array_of gs))) c.in_ok-groups-in-Ok.ensures))
 
 pub returns-in-Err : goal.returns-in-Err
