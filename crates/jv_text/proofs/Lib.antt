@@ -15,3 +15,4 @@ pub mod UriBytes
 pub mod Literals
 pub mod FormatNames
 pub mod OpenTokens
+pub mod Resumed

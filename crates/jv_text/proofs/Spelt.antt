@@ -18,7 +18,7 @@ use Rattle.jv_data.specs.declared.values.Val.{Val}
 use Rattle.jv_data.specs.declared.values.Val as val
 use Rattle.jv_text.specs.Json.{data_of}
 use Rattle.jv_text.specs.Printed.{bytes_or, compact, tokens_of}
-use Rattle.jv_text.specs.private.PrintedTokens.{tokens_of_members}
+use Rattle.jv_text.specs.PrintedTokens.{tokens_of_members}
 
 -- the bytes of a string are those of its characters
 pub spelt : (s : String Global) → encode_utf8_all (text_of s) ≡ string_bytes s

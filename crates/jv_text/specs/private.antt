@@ -6,5 +6,4 @@ pub mod Appending
 pub mod Unreadable
 pub mod Runs
 pub mod PlainTokens
-pub mod PrintedTokens
 pub mod Met

@@ -8,7 +8,7 @@ ghost use Rattle.jv_meaning.specs.Text.{text_of};
 ghost use Rattle.jv_data.specs.Held.{members_in};
 ghost use Rattle.jv_data.specs.View.{view, items_view};
 ghost use Rattle.jv_text.specs.Printed.{printed, value_text, laid_out, bytes_or, compact, pretty, json_text, text_of_value, tokens_of};
-ghost use Rattle.jv_text.specs.private.PrintedTokens.{tokens_of_items, tokens_of_members};
+ghost use Rattle.jv_text.specs.PrintedTokens.{tokens_of_items, tokens_of_members};
 
 use crate::nested::write_in_list;
 use crate::sinks::Tokens;
@@ -22,7 +22,7 @@ use std::mem;
 const SHORT: usize = 512;
 
 // How many levels of a value are printed by recursion. For what is deeper there is a list, which takes memory.
-const NEAR: usize = 100;
+pub(crate) const NEAR: usize = 100;
 
 /// How values are printed. Each field is an option of the command `jql`.
 #[derive(Clone, Copy, Debug, PartialEq, Eq)]
@@ -121,7 +121,7 @@ fn print_laid_out(
 }
 
 // The text of a value that is a string.
-fn as_text(value: &Val) -> Option<&str>
+pub(crate) fn as_text(value: &Val) -> Option<&str>
     ensures bytes { (other : List ℕ) → MatchOption result (bytes_or other (view value.now) ≡ other) (λ text. bytes_or other (view value.now) ≡ text.now) }
     ensures characters { MatchOption result (text_of_value (view value.now) ≡ json_text (view value.now)) (λ text. text_of_value (view value.now) ≡ chars text.now) }
 {
@@ -193,7 +193,7 @@ fn print_pretty(alloc: Global, value: &Val, out: &mut Vec<u8>) -> Result<(), All
 // array or an object costs a call.
 #[cycle(writing)]
 #[inline(always)]
-fn write<W: Tokens>(
+pub(crate) fn write<W: Tokens>(
     alloc: Global,
     value: &Val,
     levels: usize,

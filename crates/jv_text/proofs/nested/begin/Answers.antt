@@ -4,7 +4,7 @@ use Rattle.json.specs.Token.{Token}
 use Rattle.jv_data.proofs.shared.Levels.{view-List}
 use Rattle.jv_data.specs.View.{view, items_view}
 use Rattle.jv_text.specs.Printed.{tokens_of}
-use Rattle.jv_text.specs.private.PrintedTokens.{open_tokens, rest_tokens, tokens_of_items, tokens_of_members}
+use Rattle.jv_text.specs.PrintedTokens.{open_tokens, rest_tokens, tokens_of_items, tokens_of_members}
 use Rattle.jv_text.specs.declared.nested.Open.TheVariants.{Array, Object}
 use Rattle.jv_text.proofs.OpenTokens.{open_tokens-last}
 use Rattle.jv_text.proofs.Spelt.{tokens_of-Text, tokens_of-Table}

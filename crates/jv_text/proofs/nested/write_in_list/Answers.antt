@@ -1,5 +1,5 @@
 use Rattle.std.proofs.Common.{◌∙◌, [], ◌++◌, sym, ap, rules}
-use Rattle.jv_text.specs.private.PrintedTokens.{open_tokens}
+use Rattle.jv_text.specs.PrintedTokens.{open_tokens}
 use Rattle.jv_text.proofs.OpenTokens.{open_tokens-last}
 use Rattle.jv_text.proofs.nested.write_in_list.Goals as goal
 

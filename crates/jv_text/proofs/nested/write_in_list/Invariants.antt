@@ -1,7 +1,7 @@
 use Rattle.std.proofs.Common.{◌≡◌, ◌++◌, []}
 use Rattle.jv_data.specs.View.{view}
 use Rattle.jv_text.specs.Printed.{tokens_of}
-use Rattle.jv_text.specs.private.PrintedTokens.{open_tokens}
+use Rattle.jv_text.specs.PrintedTokens.{open_tokens}
 use Rattle.jv_text.proofs.nested.write_in_list.Given as goal
 
 -- what is written, and then what is open, is the whole value

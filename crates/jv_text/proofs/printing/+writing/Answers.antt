@@ -4,8 +4,8 @@ use Rattle.json.specs.Token.{Token}
 use Rattle.jv_data.proofs.shared.Depths.{depth_held, depth_under}
 use Rattle.jv_data.specs.View.{view, members_view}
 use Rattle.jv_text.specs.Printed.{tokens_of}
-use Rattle.jv_text.specs.private.PrintedTokens.{tokens_of_members}
-use Rattle.jv_text.proofs.Spelt.{spelt, tokens_of-Text, tokens_of-Table}
+use Rattle.jv_text.specs.PrintedTokens.{tokens_of_members}
+use Rattle.jv_text.proofs.Spelt.{spelt, tokens_of-Text}
 use Rattle.jv_text.proofs.printing.+writing.Goals as goal
 
 pub write-returns-in-Text-clause-ok : goal.write-returns-in-Text-clause-ok

@@ -3,7 +3,7 @@ use Rattle.jv_data.proofs.shared.Depths.{depth_under}
 use Rattle.jv_data.specs.Held.{members_in}
 use Rattle.jv_data.specs.Shared.{entries_in}
 use Rattle.jv_data.specs.View.{items_view, members_view}
-use Rattle.jv_text.specs.private.PrintedTokens.{tokens_of_items, tokens_of_members}
+use Rattle.jv_text.specs.PrintedTokens.{tokens_of_items, tokens_of_members}
 use Rattle.jv_text.proofs.printing.+writing.Given as goal
 
 abbrev pub invariant-write_items-loop-item : goal.invariant-write_items-loop-item

@@ -1,0 +1,26 @@
+use Rattle.std.proofs.Common.{◌≡◌, ◌∙◌, List, [], ◌++◌, ap, sym, length}
+use Rattle.json.specs.Layout.{is_value, pretty, pretty_from, state_after}
+use Rattle.json.specs.Print.{ends_value, print, print_from}
+use Rattle.json.specs.Token.{Token}
+use Rattle.jv_text.specs.Places.{place_of, replayed}
+use Rattle.jv_text.specs.PrintedTokens.{open_tokens}
+use Rattle.jv_text.proofs.Resumed.{lines_resumed}
+use Rattle.jv_text.proofs.pieces.append_lines.Goals as goal
+
+pub returns-clause-ok : goal.returns-clause-ok
+returns-clause-ok c =
+    let place = c.args.place in
+    let all = open_tokens c.args.opened.now.items [] in
+    let left = open_tokens c.write_some.new.opened.items [] in
+    let written = c.write_some.new.out in
+    let resumed : written ++ left ≡ replayed place ++ all =
+    c.in_ok-write_some.ensures ∙ ap (λ ts. ts ++ all) (c.in_ok-replay-2.ensures.ok ∙ ap (λ ts. ts ++ replayed place) c.new-lines.ensures) in
+    let front = c.finish-replayed.ensures.text ∙ ap pretty (c.in_ok-replay.ensures.ok ∙ ap (λ ts. ts ++ replayed place) c.new-before.ensures) in
+    let len = ap length (c.as_slice-skipped.ensures.value ∙ front) in
+    let after = pretty_from (place_of c.finish-text.result.1) left in
+    let rest = pretty_from (place_of place) all in
+    let same =
+    ap (λ t. t ++ after) (c.as_slice.ensures.value ∙ c.finish-text.ensures.text)
+    ∙ ap (λ s. pretty written ++ pretty_from s left) c.finish-text.ensures.place ∙ lines_resumed place written left all c.in_ok-replay.ensures.within resumed in
+    let done = c.in_ok-append_after.ensures.ok in
+    (done.0, done.1, done.2 (pretty (replayed place)) after rest (sym len) same)
