@@ -31,11 +31,11 @@ PROGRAM = "jql"
 LANE = 3_500_000_000
 # A crate takes this time if docs/GATE.md has no row for it: so long to load its libraries, and so long for a line.
 MINUTES_TO_LOAD, MINUTES_A_LINE = 0.15, 1 / 1500
-# The most jobs for one crate, unless it goes before the others, and the silence after which a line says what runs.
+# The most jobs for one crate (two take a third off its time; each job loads the libraries below, so more take hardly less time and much
+# more of the processors), and the silence after which a line says what runs.
 JOBS_AT_MOST, SECONDS_OF_SILENCE = 2, 45
 # A crate that begins the longest chain, or one that is shorter by at most this part, goes before the others from this number of lanes on:
-# it gets as many jobs also where no lane is idle, every lane that no other crate needs, and the processors first, since the others run
-# with this niceness.
+# it gets all its jobs also where no lane is idle, and the processors first, since the others run with this niceness.
 LANES_TO_SHARE, NEARLY, NICENESS = 3, 0.05, 10
 LINES_OF_A_LOG = 40
 
@@ -214,8 +214,7 @@ class Run:
             is_first = self.is_first(crate)
             if idle < 1 and not is_first:
                 return
-            spare = idle - (len(ready) - at - 1)
-            jobs = max(JOBS_AT_MOST, spare) if is_first else min(JOBS_AT_MOST, max(1, spare))
+            jobs = JOBS_AT_MOST if is_first else min(JOBS_AT_MOST, max(1, idle - (len(ready) - at - 1)))
             self.left.remove(crate)
             niceness = 0 if is_first or self.lanes < LANES_TO_SHARE else NICENESS
             self.running[started(build, crate, jobs, niceness)] = crate, time.monotonic(), jobs
