@@ -50,6 +50,11 @@ piece_added_first piece rest a b c o p added same g = record {
   errors = added_first _ _ _ _ _ _ (same ∙ sym (append-nil a.reported.items)) g.errors;
 }
 
+-- nothing was added to the buffers
+pub none_added_first : (rest : List ℕ) (a b : OutputBuffers) (o : Outputs) → b.printed.items ≡ a.printed.items → b.reported.items ≡ a.reported.items → IsPrintedFirst rest a b o o
+none_added_first rest a b o same other =
+    piece_added_first [] rest a b b o o (same ∙ sym (append-nil a.printed.items)) other (first_printed [] [] b b o o (printed_none b o))
+
 -- ---- the bytes that remain after a piece
 
 pub more_remain : (whole done rest piece after : List ℕ) (more : Bool) → whole ≡ done ++ rest → rest ≡ piece ++ (if more then after else []) → more ≡ true → whole ≡ (done ++ piece) ++ after
