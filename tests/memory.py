@@ -76,6 +76,7 @@ RUNS = [  # words, and an input
     (["-c", "label $out | foreach .[] as [$a, $b] (0; . + $a; ., $b, if . > 3 then break $out else empty end)"], b"[[1,2],[3,4],[5,6]]"),
     (["-c", ".[] as $x | try ($x | .a // error) catch [., $x], (.[] | strings, numbers, error?)"], b'[{"a":1},2,"x"]'),
     (["-c", '., if . == [3] then halt_error(7) else empty end'], b'"a" [3] ]'),
+    (["-n", "[range(9000)], 1"], b""),
     (["--arg", "x", "text", "--argjson", "y", '{"a":[1]}', "-c", "[$x, $y], $x * 3, ($x | explode | implode), error"], b"1"),
 ]
 

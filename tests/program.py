@@ -6,6 +6,7 @@
 Each test is a function that answers what was wrong, nothing where all was well. The last line is 'N passed, M failed'.
 """
 import concurrent.futures
+import json
 import os
 import pathlib
 import random
@@ -284,6 +285,61 @@ def large_errors_in_little_memory(program):
     out, told = process.communicate(b"1\n" * 20_000, timeout=SECONDS)
     want = (b"jq: error: " + b"a" * 10_000 + b"\n") * 20_000
     return (out, told == want, process.returncode) != (b"", True, 5) and f"got {out!r}, {len(told)} bytes of errors, {process.returncode}"
+
+
+def nested(value, levels):
+    for level in range(levels):
+        value = [level, value, {"level": level}]
+    return value
+
+
+def large_values():
+    """Values whose texts are larger than one piece: wide ones, nested ones, long strings, and items around the size of a piece."""
+    yield list(range(100_000))
+    yield {f"key {number}": [number, None, {"ü": str(number)}] for number in range(30_000)}
+    yield nested(list(range(10_000)), 40)
+    yield nested({f"{number}": [] for number in range(10_000)}, 20)
+    yield ["a" * 100_000, {"b" * 100_000: "\n" * 100_000}, [[["c" * 100_000]]]]
+    yield [["a" * length, {}, [], length] for length in range(32_700, 32_800, 9)]
+    yield [[True, False, None, {"": {"": [[]] * 50}}] * 50] * 20
+
+
+def large_outputs(program):
+    """The bytes of large arrays and objects, each followed by a small output, and the end of a run whose device is full."""
+    styles = [
+        ("-c", {"separators": (",", ":")}, "\n"),
+        ("-M", {"indent": 2, "separators": (",", ": ")}, "\n"),
+        ("-r", {"indent": 2, "separators": (",", ": ")}, "\n"),
+        ("-rc", {"separators": (",", ":")}, "\n"),
+        ("-j", {"indent": 2, "separators": (",", ": ")}, ""),
+    ]
+    for number, value in enumerate(large_values()):
+        text = json.dumps(value, ensure_ascii=False).encode()
+        for option, layout, end in styles:
+            process = start(program, option, "., 7, .")
+            out, told = process.communicate(text, timeout=SECONDS)
+            whole = json.dumps(value, ensure_ascii=False, sort_keys=True, **layout) + end
+            want = f"{whole}7{end}{whole}".encode()
+            if (out, told, process.returncode) != (want, b"", 0):
+                place = next((at for at, (a, b) in enumerate(zip(out, want)) if a != b), min(len(out), len(want)))
+                return f"value {number} with {option}: {len(out)} bytes of {len(want)}, other ones from {place} on: {out[place : place + 50]!r}, {told!r}"
+    with open("/dev/full", "wb") as full:
+        process = start(program, "-n", "[range(100000)], 7", stdout=full)
+        told = process.communicate(timeout=SECONDS)[1]
+    return (told, process.returncode) != (b"jq: error: write fault\n", 2) and f"on a full device: {told!r}, status {process.returncode}"
+
+
+def a_large_output_in_little_memory(program):
+    """One array of 200 MB of text, laid out and on one line, in an address space of 64 MiB. Its items are one string."""
+    limit = 64 << 20
+    item = b'"' + b"a" * 1000 + b'"'
+    for option, start_of, between, end in (("-nc", b"[", b",", b"]\n"), ("-n", b"[\n  ", b",\n  ", b"\n]\n")):
+        words = [option, '("a" * 1000) as $s | [range(200000) | $s]']
+        process = start(program, *words, preexec_fn=lambda: resource.setrlimit(resource.RLIMIT_AS, (limit, limit)))
+        out, told = process.communicate(timeout=SECONDS)
+        if (out == start_of + between.join([item] * 200_000) + end, told, process.returncode) != (True, b"", 0):
+            return f"with {option}: {len(out)} bytes, {told!r}, status {process.returncode}"
+    return None
 
 
 def a_text_of_the_greatest_length(program):
@@ -615,6 +671,8 @@ TESTS = [
     a_file_that_cannot_be_opened,
     a_million_lines,
     large_errors_in_little_memory,
+    large_outputs,
+    a_large_output_in_little_memory,
     a_text_of_the_greatest_length,
     streams_in_pieces,
     beginnings_of_a_stream,

@@ -1,6 +1,7 @@
 pub mod Around
 pub mod Blaming
 pub mod Sending
+pub mod Printing
 pub mod LastOutputs
 pub mod Halting
 pub mod Answering

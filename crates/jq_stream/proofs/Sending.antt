@@ -49,6 +49,13 @@ first_of_sent u v r s a p = record { front = p.front; back = []; parts = p.parts
 pub first_sent : (u v : List ℕ) (r s : Option (List ℕ)) (a b : List ℕ) → IsSent u v r s a → IsSentFirst u v r s (a ++ b)
 first_sent u v r s a b p = sent_longer u v r s a b (first_of_sent u v r s a p)
 
+-- the bytes under another name
+pub sent_as : (u v : List ℕ) (r s : Option (List ℕ)) (a b : List ℕ) → a ≡ b → IsSent u v r s a → IsSent u v r s b
+sent_as u v r s a b is p = subst (IsSent u v r s) is p
+
+pub first_as : (u v : List ℕ) (r s : Option (List ℕ)) (a b : List ℕ) → a ≡ b → IsSentFirst u v r s a → IsSentFirst u v r s b
+first_as u v r s a b is p = subst (IsSentFirst u v r s) is p
+
 -- ---- to the bytes that were written
 
 -- if the buffer was empty, what was sent is what was written, followed by what is in the buffer then

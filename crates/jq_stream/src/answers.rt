@@ -1,5 +1,5 @@
 // The outputs of a filter's runs, one after the other.
-ghost use Rattle.std.specs.Prelude.{◌≡◌, ◌≢◌, ◌++◌, ◌∷◌, ◌||◌, List, ℕ, [], true, IfErr, IfOk, OnOk, OnErr};
+ghost use Rattle.std.specs.Prelude.{◌≡◌, ◌≢◌, ◌++◌, ◌∷◌, ◌||◌, List, ℕ, [], true, if◌then◌else◌, IfErr, IfOk, OnOk, OnErr};
 ghost use Rattle.std.specs.Io.KnownBytes.{Appends};
 ghost use Rattle.jv_meaning.specs.Value.{Value};
 ghost use Rattle.jv_data.specs.View.{view};
@@ -33,7 +33,7 @@ use jq_pages::Last;
 use jq_starts::Starts;
 use jq_state::next::Stop;
 use jv_data::{NoMemory, Val};
-use jv_text::{Cutter, Fault, Style, print};
+use jv_text::{Cutter, Fault, Printer, Style, print};
 use std::alloc::Global;
 
 const RAW: Style = Style {
@@ -315,7 +315,7 @@ impl OutputBuffers {
         Err(StreamFault::NoMemory)
     }
 
-    // Prints an output to the buffer, and writes the buffers if one of them is large.
+    // Prints an output to the buffer, a large one piece by piece, and writes the buffers if one of them is large.
     fn print<O: Write, E: Write>(
         &mut self,
         alloc: Global,
@@ -333,9 +333,67 @@ impl OutputBuffers {
         ensures blamed { IfErr result (λ fault. IsWriteBlamed fault (output_failures output.old errors.old) (output_failures output.new errors.new)) }
         ensures fault { IfErr result (λ fault. fault ≢ ReadFault) }
     {
-        print(alloc, value, style, &mut self.printed)?;
         self.last = last_of(value);
-        self.write_if_large(output, errors)
+        match Printer::new(alloc, value, style)? {
+            Some(printer) => {
+                let mut rest = printer;
+                self.print_pieces(alloc, &mut rest, output, errors)
+            }
+            None => {
+                print(alloc, value, style, &mut self.printed)?;
+                self.write_if_large(output, errors)
+            }
+        }
+    }
+
+    // Prints the remaining pieces of a large output, and writes the buffers whenever one of them is large.
+    fn print_pieces<O: Write, E: Write>(
+        &mut self,
+        alloc: Global,
+        printer: &mut Printer<'_>,
+        output: &mut Watched<O>,
+        errors: &mut Watched<E>,
+    ) -> Result<(), StreamFault>
+        ensures ok { OnOk result (IsPrinted printer.old self.old self.new
+            (outputs_of O.contents E.contents output.old errors.old) (outputs_of O.contents E.contents output.new errors.new)) }
+        ensures last { self.new.last ≡ self.old.last }
+        ensures err { OnErr result (IsPrintedFirst printer.old self.old self.new
+            (outputs_of O.contents E.contents output.old errors.old) (outputs_of O.contents E.contents output.new errors.new)) }
+        ensures unfailed { OnOk result (output_failures output.new errors.new ≡ output_failures output.old errors.old) }
+        ensures blamed { IfErr result (λ fault. IsWriteBlamed fault (output_failures output.old errors.old) (output_failures output.new errors.new)) }
+        ensures fault { IfErr result (λ fault. fault ≢ ReadFault) }
+    {
+        for _piece in 0..u64::MAX {
+            let more = self.print_piece(alloc, printer, output, errors)?;
+            if !more {
+                return Ok(());
+            }
+        }
+        // A text of 2^64 - 1 pieces or more counts as out of memory.
+        Err(StreamFault::NoMemory)
+    }
+
+    // Prints the next piece of a large output, writes the buffers if one of them is large, and returns whether there is another
+    // piece.
+    fn print_piece<O: Write, E: Write>(
+        &mut self,
+        alloc: Global,
+        printer: &mut Printer<'_>,
+        output: &mut Watched<O>,
+        errors: &mut Watched<E>,
+    ) -> Result<bool, StreamFault>
+        ensures ok { IfOk result (λ more. (piece : List ℕ) × (printer.old ≡ piece ++ (if more then printer.new else [])) × IsPrinted piece self.old self.new
+            (outputs_of O.contents E.contents output.old errors.old) (outputs_of O.contents E.contents output.new errors.new)) }
+        ensures last { self.new.last ≡ self.old.last }
+        ensures err { OnErr result (IsPrintedFirst printer.old self.old self.new
+            (outputs_of O.contents E.contents output.old errors.old) (outputs_of O.contents E.contents output.new errors.new)) }
+        ensures unfailed { OnOk result (output_failures output.new errors.new ≡ output_failures output.old errors.old) }
+        ensures blamed { IfErr result (λ fault. IsWriteBlamed fault (output_failures output.old errors.old) (output_failures output.new errors.new)) }
+        ensures fault { IfErr result (λ fault. fault ≢ ReadFault) }
+    {
+        let more = printer.print_next(alloc, &mut self.printed)?;
+        self.write_if_large(output, errors)?;
+        Ok(more)
     }
 
     // Writes the buffers if one of them is large.
