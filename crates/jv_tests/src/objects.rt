@@ -4,24 +4,24 @@ use jv_data::{Object, Val, same};
 use jv_text::Cutter;
 use std::test::Fail;
 
+const TEXTS: &str = r#"{"c":1,"a":2,"b":3}
+{"c":4,"a":5,"b":6}
+{"b":1,"c":2,"a":3}
+{"c":1,"a":2}
+{"c":1,"a":2,"d":3,"b":4}
+{"c":1,"c":2,"a":3,"b":4,"a":5}
+{}
+{"b":{"c":1,"a":2,"b":3},"a":[{"c":1,"a":2,"b":3},{"c":{}}],"c":{"a":1}}
+{"":1,"é":2,"e":3}
+{"":1,"é":2,"e":3}
+"#;
+
 #[test]
 fn names_of_earlier_objects(rt: HostRuntime) -> Result<(), Fail> {
     let alloc = rt.alloc();
     let mut cutter = Cutter::new(alloc);
-    for text in [
-        r#"{"c":1,"a":2,"b":3}"#,
-        r#"{"c":4,"a":5,"b":6}"#,
-        r#"{"b":1,"c":2,"a":3}"#,
-        r#"{"c":1,"a":2}"#,
-        r#"{"c":1,"a":2,"d":3,"b":4}"#,
-        r#"{"c":1,"c":2,"a":3,"b":4,"a":5}"#,
-        r#"{}"#,
-        r#"{"b":{"c":1,"a":2,"b":3},"a":[{"c":1,"a":2,"b":3},{"c":{}}],"c":{"a":1}}"#,
-        r#"{"":1,"é":2,"e":3}"#,
-        r#"{"":1,"é":2,"e":3}"#,
-    ] {
-        cutter.feed(text.as_bytes())?;
-        cutter.feed(b"\n")?;
+    cutter.feed(TEXTS.as_bytes())?;
+    for text in TEXTS.lines() {
         match cutter.next()? {
             Some(value) => assert_is(&rt, &value, text)?,
             None => return Err("no value")?,
@@ -34,12 +34,15 @@ fn names_of_earlier_objects(rt: HostRuntime) -> Result<(), Fail> {
 fn objects_of_many_members(rt: HostRuntime) -> Result<(), Fail> {
     let alloc = rt.alloc();
     let mut members = Object::new(alloc)?;
-    for n in 0..150 {
-        members.insert(format!(in alloc; "{}", n * 37 % 151)?, Val::Num(n))?;
+    for n in 0..150_i64 {
+        members.insert(
+            format!(in alloc; "{}", n.wrapping_mul(37) % 151)?,
+            Val::Num(n),
+        )?;
     }
     let few = members.share()?;
-    for n in 0..150 {
-        let name = format!(in alloc; "{}", n * 37 % 151)?;
+    for n in 0..150_i64 {
+        let name = format!(in alloc; "{}", n.wrapping_mul(37) % 151)?;
         let value = members.remove(name.as_str())?;
         assert!(rt; value.is_some_and(|value| same(&value, &Val::Num(n))));
         let kept = few.get(name.as_str());
