@@ -77,13 +77,23 @@ pub(crate) fn after_byte(nest: Nest, byte: u8) -> Nest
     requires { nest.depth ≤ max_nesting }
     ensures value { result ≡ after_byte nest byte }
 {
-    let depth = match nest.quote {
-        Quote::Outside => counted(nest.depth, byte),
-        Quote::Inside | Quote::Escaped => nest.depth,
-    };
-    Nest {
-        depth,
-        quote: nest.quote.next(byte),
+    let depth = nest.depth;
+    match nest.quote {
+        Quote::Outside => if byte == b'"' {
+            Nest {
+                depth,
+                quote: Quote::Inside,
+            }
+        } else {
+            Nest {
+                depth: counted(depth, byte),
+                quote: Quote::Outside,
+            }
+        },
+        Quote::Inside | Quote::Escaped => Nest {
+            depth,
+            quote: nest.quote.next(byte),
+        },
     }
 }
 
