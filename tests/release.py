@@ -261,17 +261,21 @@ def the_build_goes_from_the_bottom_up(program):
 
 
 def the_longest_chain_goes_first(program):
-    """A crate that begins the longest chain has two jobs, also if one lane is left, and the others run at niceness 10. Two lanes are not shared so."""
+    """A crate that begins the longest chain has two jobs, also if one lane is left, and the others run at niceness 10. Two lanes are not shared so, and
+    with 8 GB of memory each crate has one job."""
     with tempfile.TemporaryDirectory() as folder:
         top = pathlib.Path(folder)
         put_crates(top, "a:\nb: a\nc: a\nd: c\ne: d\nf: a\njql: e b f\n")
-        for lanes, wants in ((3, {"c": (2, 0), "b": (1, 10), "d": (2, 0), "jql": (2, 0)}), (2, {"c": (1, 0), "b": (1, 0)})):
+        kit = top / "bin" / "rt"
+        two_lanes = {"a": (2, 0), "c": (1, 0), "b": (1, 0)}
+        for lanes, memory, wants in ((3, 64, {"c": (2, 0), "b": (1, 10), "d": (2, 0), "jql": (2, 0)}), (2, 64, two_lanes), (2, 8, {"a": (1, 0), "jql": (1, 0)})):
+            kit.write_text(FAKE_KIT.replace("64 << 30", f"{memory} << 30"))
             status, told, _ = build_crates(top, lanes)
             for name, (jobs, nicer) in wants.items():
                 log = (top / "crates" / name / "out" / "build.log").read_text()
                 if log != f"built with --jobs {jobs} at niceness {os.getpriority(os.PRIO_PROCESS, 0) + nicer}\n":
                     return name, lanes, status, told, log
-            (top / "crates" / "a" / "src" / "lib.rt").write_text("a changed")
+            (top / "crates" / "a" / "src" / "lib.rt").write_text(f"a after {lanes} {memory}")
     return None
 
 

@@ -34,6 +34,8 @@ MINUTES_TO_LOAD, MINUTES_A_LINE = 0.15, 1 / 1500
 # The most jobs for one crate (two take a third off its time; each job loads the libraries below, so more take hardly less time and much
 # more of the processors), and the silence after which a line says what runs.
 JOBS_AT_MOST, SECONDS_OF_SILENCE = 2, 45
+# Memory for a crate of two jobs, in bytes: with less of it free a crate has one.
+TWO_JOBS = 9_000_000_000
 # A crate that begins the longest chain, or one that is shorter by at most this part, goes before the others from this number of lanes on:
 # it gets all its jobs also where no lane is idle, and the processors first, since the others run with this niceness.
 LANES_TO_SHARE, NEARLY, NICENESS = 3, 0.05, 10
@@ -189,8 +191,8 @@ def started(call, *arguments):
 class Run:
     """A run over crates: those that are done, those that run (a future's crate, start and jobs), and those that are left."""
 
-    def __init__(self, crates, lanes, chains):
-        self.crates, self.lanes, self.chains = crates, lanes, chains
+    def __init__(self, crates, lanes, chains, free):
+        self.crates, self.lanes, self.chains, self.free = crates, lanes, chains, free
         self.left = sorted((crate for crate in crates if crate.name in chains), key=lambda crate: -chains[crate.name])
         self.done = {crate.name for crate in crates} - {crate.name for crate in self.left}
         self.running, self.failed, self.silent_since = {}, [], time.monotonic()
@@ -214,7 +216,8 @@ class Run:
             is_first = self.is_first(crate)
             if idle < 1 and not is_first:
                 return
-            jobs = JOBS_AT_MOST if is_first else min(JOBS_AT_MOST, max(1, idle - (len(ready) - at - 1)))
+            most = JOBS_AT_MOST if self.free() >= TWO_JOBS else 1
+            jobs = most if is_first else min(most, max(1, idle - (len(ready) - at - 1)))
             self.left.remove(crate)
             niceness = 0 if is_first or self.lanes < LANES_TO_SHARE else NICENESS
             self.running[started(build, crate, jobs, niceness)] = crate, time.monotonic(), jobs
@@ -279,7 +282,7 @@ def main():
     chains, lanes = chains_of(crates, minutes), lanes_for(kit)
     if minutes:
         tell_plan(crates, lanes, minutes, chains)
-    run = Run(crates, lanes, chains)
+    run = Run(crates, lanes, chains, kit.free)
     run.go()
     tell_failures(run.failed)
     if run.failed:
