@@ -3,7 +3,7 @@ use Rattle.std.proofs.Common.{◌≡◌, ◌++◌, ◌⊎◌, inl, inr, Bool, �
 use Rattle.jq_devices.specs.declared.faults.StreamFault.{StreamFault}
 use Rattle.jq_devices.specs.declared.faults.StreamFault.TheVariants as fault
 use Rattle.jq_devices.specs.Faults.{error_start}
-use Rattle.jq_stream.specs.Outcomes.{Outcome}
+use Rattle.jq_filters.specs.Outcomes.{Outcome}
 use Rattle.jq_stream.specs.Streams.{Streams}
 use Rattle.jq_syntax.specs.Chosen.{Chosen, setting}
 use Rattle.jq_syntax.specs.Compiled.{IsRefusal}

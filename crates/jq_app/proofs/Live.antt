@@ -18,9 +18,9 @@ use Rattle.jq_devices.proofs.shared.Writing.{first_nothing}
 use Rattle.jq_devices.specs.Writing.{AppendsFirst}
 use Rattle.jq_devices.specs.declared.faults.StreamFault.{StreamFault}
 use Rattle.jq_devices.specs.declared.faults.StreamFault.TheVariants as stream_fault
-use Rattle.jq_stream.specs.Filters.{IsFilterOf, filter_job, filter_mode}
-use Rattle.jq_stream.specs.Outcomes.{text_line}
-use Rattle.jq_stream.specs.declared.filters.Filter.{Filter}
+use Rattle.jq_filters.specs.Filters.{IsFilterOf, filter_job, filter_mode}
+use Rattle.jq_filters.specs.Outcomes.{text_line}
+use Rattle.jq_filters.specs.declared.filters.Filter.{Filter}
 use Rattle.jq_devices.specs.Reading.{IsWhole}
 use Rattle.jq_stream.specs.Streams.{Streams, streams}
 use Rattle.jq_stream.specs.Texts.{EndsAs}

@@ -7,7 +7,7 @@ use Rattle.jq_cli.specs.Configuration.{Configuration}
 use Rattle.jq_devices.specs.Files.{contents}
 use Rattle.jv_meaning.proofs.shared.Results.{if_err_map, if_ok_map}
 use Rattle.jq_devices.specs.declared.faults.StreamFault.{StreamFault}
-use Rattle.jq_stream.specs.Outcomes.{Outcome}
+use Rattle.jq_filters.specs.Outcomes.{Outcome}
 use Rattle.jq_stream.specs.Streams.{Streams}
 use Rattle.jq_app.specs.Filters.{IsAnswered, IsFilterDone, IsFilterStopped}
 use Rattle.jq_app.specs.Served.{IsConfigurationDone, IsReply, IsServed}

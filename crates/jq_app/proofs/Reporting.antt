@@ -6,7 +6,7 @@ use Rattle.jq_devices.proofs.shared.Writing.{first_nothing, first_whole}
 use Rattle.jq_devices.proofs.shared.Failures.{failed_more}
 use Rattle.jq_devices.specs.declared.faults.StreamFault.{StreamFault}
 use Rattle.jq_devices.specs.declared.faults.StreamFault.TheVariants as fault
-use Rattle.jq_stream.specs.Outcomes.{Outcome}
+use Rattle.jq_filters.specs.Outcomes.{Outcome}
 use Rattle.jq_stream.specs.Streams.{outputs, streams}
 use Rattle.jq_app.specs.Blaming.{IsWritten}
 use Rattle.jq_app.specs.Filters.{IsAnswered}

@@ -5,16 +5,16 @@ use Rattle.jq_state.specs.Listed.{items_in}
 use Rattle.jq_state.specs.declared.programs.ProgramBindings.{ProgramBindings}
 use Rattle.jv_meaning.proofs.shared.Results.{if_err_map, if_ok_map}
 use Rattle.jq_devices.specs.declared.faults.StreamFault.{StreamFault}
-use Rattle.jq_stream.specs.Accepted.{Accepts}
-use Rattle.jq_stream.specs.Filters.{IsFilterOf, filter_job, filter_mode}
-use Rattle.jq_stream.specs.Outcomes.{Job, on_each}
-use Rattle.jq_stream.specs.Runner.{mode_of, job_in}
+use Rattle.jq_filters.specs.Accepted.{Accepts}
+use Rattle.jq_filters.specs.Filters.{IsFilterOf, filter_job, filter_mode}
+use Rattle.jq_filters.specs.Outcomes.{Job, on_each}
+use Rattle.jq_filters.specs.Runner.{mode_of, job_in}
 use Rattle.jq_stream.specs.Streams.{Streams, IsStreamRun}
 use Rattle.jq_stream.specs.Stopped.{IsStreamStopped, IsOnePass}
-use Rattle.jq_stream.specs.declared.filters.Filter.{Filter}
-use Rattle.jq_stream.specs.declared.settings.Mode.{Mode}
-use Rattle.jq_stream.specs.declared.settings.Mode.TheVariants as mode
-use Rattle.jq_stream.specs.declared.settings.Settings.{Settings}
+use Rattle.jq_filters.specs.declared.filters.Filter.{Filter}
+use Rattle.jq_filters.specs.declared.settings.Mode.{Mode}
+use Rattle.jq_filters.specs.declared.settings.Mode.TheVariants as mode
+use Rattle.jq_filters.specs.declared.settings.Settings.{Settings}
 use Rattle.jq_syntax.specs.Chosen.{Chosen}
 use Rattle.jq_app.specs.Filters.{HasRun, HasStopped, FilterNeedsInput}
 

@@ -5,8 +5,8 @@ use Rattle.jq_syntax.specs.Chosen.{Chosen, setting}
 use Rattle.jq_devices.specs.Faults.{line, error_start}
 use Rattle.jq_devices.specs.declared.faults.StreamFault.{StreamFault}
 use Rattle.jq_devices.specs.declared.faults.StreamFault.TheVariants as fault
-use Rattle.jq_stream.specs.Accepted.{Accepts}
-use Rattle.jq_stream.specs.Outcomes.{Mode, on_each, on_null, Job, Outcome}
+use Rattle.jq_filters.specs.Accepted.{Accepts}
+use Rattle.jq_filters.specs.Outcomes.{Mode, on_each, on_null, Job, Outcome}
 use Rattle.jq_stream.specs.Streams.{Outputs, Streams, Writes, IsStreamRun}
 use Rattle.jq_stream.specs.Stopped.{WritesFirst, IsStreamStopped, IsOnePass}
 use Rattle.jq_syntax.specs.Compiled.{IsRefusal}

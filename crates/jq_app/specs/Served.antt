@@ -8,7 +8,7 @@ use Rattle.jq_cli.specs.Configuration.{Configuration}
 use Rattle.jq_cli.specs.declared.help.TheConstants.{HELP_TEXT, VERSION_TEXT}
 use Rattle.jq_devices.specs.Faults.{error_start}
 use Rattle.jq_devices.specs.Files.{contents}
-use Rattle.jq_stream.specs.Outcomes.{Outcome}
+use Rattle.jq_filters.specs.Outcomes.{Outcome}
 use Rattle.jq_stream.specs.Streams.{Streams}
 use Rattle.jq_app.specs.Filters.{FilterNeedsInput, IsAnswered, IsFilterDone, refusal}
 use Rattle.jq_app.specs.Sessions.{IsAccepted, IsSessionDone}

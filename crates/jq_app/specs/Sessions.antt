@@ -6,7 +6,7 @@ use Rattle.jq_syntax.specs.Chosen.{Chosen}
 use Rattle.jq_devices.specs.Faults.{error_start}
 use Rattle.jq_devices.specs.declared.faults.StreamFault.{StreamFault}
 use Rattle.jq_devices.specs.declared.faults.StreamFault.TheVariants as stream_fault
-use Rattle.jq_stream.specs.Outcomes.{Mode, Job, Outcome, text_line}
+use Rattle.jq_filters.specs.Outcomes.{Mode, Job, Outcome, text_line}
 use Rattle.jq_stream.specs.Stopped.{WritesFirst}
 use Rattle.jq_devices.specs.Reading.{IsWhole}
 use Rattle.jq_pages.specs.Edits.{most_inputs}
@@ -15,7 +15,7 @@ use Rattle.jq_session.specs.States.{Plan, IsPlanOf, State}
 use Rattle.jq_script.specs.Script.{Point, point}
 use Rattle.jq_script.specs.Serving.{Serving, serving}
 use Rattle.jq_script.specs.Serving as script
-use Rattle.jq_stream.specs.Accepted.{Accepts}
+use Rattle.jq_filters.specs.Accepted.{Accepts}
 use Rattle.jq_app.specs.Filters.{IsAnswered, IsRefusedFilter, NothingWritten, refusal}
 use Rattle.jq_app.specs.Stages.{Stage}
 

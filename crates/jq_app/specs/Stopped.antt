@@ -8,7 +8,7 @@ use Rattle.jq_devices.specs.Files.{contents}
 use Rattle.jq_devices.specs.Faults.{fault_line}
 use Rattle.jq_devices.specs.declared.faults.StreamFault.{StreamFault}
 use Rattle.jq_devices.specs.declared.faults.StreamFault.TheVariants as fault
-use Rattle.jq_stream.specs.Outcomes.{Outcome}
+use Rattle.jq_filters.specs.Outcomes.{Outcome}
 use Rattle.jq_stream.specs.Stopped.{WritesFirst}
 use Rattle.jq_stream.specs.Streams.{Streams}
 use Rattle.jq_app.specs.Blaming.{Failures, IsBlamed, IsWrittenUnlessFailed}

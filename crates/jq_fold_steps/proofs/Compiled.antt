@@ -20,7 +20,7 @@ use Rattle.jq_state.specs.Nodes.{program_binding}
 use Rattle.jq_state.specs.declared.environments.ProgramBinding.{ProgramBinding}
 use Rattle.jq_folds.specs.laws.Programs.{within, scope_within, HasNoInputs, DefinitionsLeaveInputsAlone}
 use Rattle.jq_folds.specs.laws.Reading.{LeavesInputsAlone}
-use Rattle.jq_stream.specs.Programs.{bindings_of, function_binding}
+use Rattle.jq_filters.specs.Programs.{bindings_of, function_binding}
 use Rattle.jq_syntax.specs.Chosen.{Chosen}
 use Rattle.jq_syntax.specs.laws.Computed.{prelude}
 use Rattle.jq_syntax.specs.laws.OfThePrelude.{after_definitions, OneTree, CallsNoInputs, DefinesNoInputs}
@@ -29,8 +29,8 @@ use Rattle.std.proofs.Props.{props}
 use Rattle.jq_inputs.specs.Plans.{view_of}
 use Rattle.jq_state.specs.Listed.{items_in}
 use Rattle.jq_folds.specs.Folding.{fold_in}
-use Rattle.jq_stream.specs.Filters.{IsFilterOf}
-use Rattle.jq_stream.specs.declared.filters.Filter.{Filter}
+use Rattle.jq_filters.specs.Filters.{IsFilterOf}
+use Rattle.jq_filters.specs.declared.filters.Filter.{Filter}
 use Rattle.jq_fold_steps.specs.Bindings.{env_of}
 use Rattle.jq_fold_steps.specs.Folded.{fold_of, starts_once}
 use Rattle.jq_fold_steps.specs.laws.Compiled.{CompiledFoldsAreFoldable, CompiledFoldsWriteOutcomes, FoldsComeAfterThePrelude}

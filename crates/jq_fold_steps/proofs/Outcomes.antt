@@ -26,15 +26,15 @@ use Rattle.jq_pages.specs.Pieces.{PieceView}
 use Rattle.jq_pages.specs.Totals.{totals, later, earlier}
 use Rattle.jq_pages.specs.declared.pieces.Last.{Last}
 use Rattle.jq_pages.specs.declared.pieces.Last.TheVariants as last
-use Rattle.jq_stream.specs.Outcomes.{Outcome, Job, on_null, printed_of, ending_report, is_failure, halt_status, last_item, last_by, last_output, unless_halted, first_halt, any_failure, runs_printed, runs_reported, runs_outcome, end_status}
+use Rattle.jq_filters.specs.Outcomes.{Outcome, Job, on_null, printed_of, ending_report, is_failure, halt_status, last_item, last_by, last_output, unless_halted, first_halt, any_failure, runs_printed, runs_reported, runs_outcome, end_status}
 use Rattle.jq_natives.specs.Answers.{is_true}
-use Rattle.jq_stream.specs.Outcomes as outcomes
-use Rattle.jq_stream.specs.Present.{values_outcome}
-use Rattle.jq_stream.specs.Runner.{job_in, run_in}
-use Rattle.jq_stream.specs.declared.settings.Settings.{Settings}
+use Rattle.jq_filters.specs.Outcomes as outcomes
+use Rattle.jq_filters.specs.Present.{values_outcome}
+use Rattle.jq_filters.specs.Runner.{job_in, run_in}
+use Rattle.jq_filters.specs.declared.settings.Settings.{Settings}
 use Rattle.jq_fold_steps.specs.Bindings.{env_in}
 use Rattle.jq_fold_steps.specs.Folded.{start_at, steps_at, fold_of}
-use Rattle.jq_stream.specs.Pieces.{last_in, last_of, piece_of, status_in}
+use Rattle.jq_filters.specs.Pieces.{last_in, last_of, piece_of, status_in}
 use Rattle.jq_fold_steps.specs.laws.Outcomes.{IsOutcome, FoldsWriteOutcomes}
 
 -- ---- the pieces are those of the runs

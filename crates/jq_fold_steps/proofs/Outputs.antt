@@ -14,11 +14,11 @@ use Rattle.jq_folds.specs.Pieces.{FoldState, going, stopped, Stepped, with_state
 use Rattle.jq_folds.specs.laws.States.{LeadsTo}
 use Rattle.jq_pages.specs.Pieces.{PieceView, piece_view}
 use Rattle.jq_pages.specs.declared.pieces.Piece.{Piece}
-use Rattle.jq_stream.specs.Outcomes.{last_item, last_by, ending_report, is_failure, halt_status}
+use Rattle.jq_filters.specs.Outcomes.{last_item, last_by, ending_report, is_failure, halt_status}
 use Rattle.jq_backtracking.specs.Outcomes.{ending_of}
 use Rattle.jq_backtracking.specs.declared.outcomes.Ending as code_ending
 use Rattle.jq_backtracking.specs.declared.outcomes.Ending.TheVariants as ending
-use Rattle.jq_stream.specs.Pieces.{last_in, piece_of}
+use Rattle.jq_filters.specs.Pieces.{last_in, piece_of}
 use Rattle.jq_fold_steps.specs.private.Collecting.{piece_so_far, valued, IsHeld, IsKept, IsAdded, IsReported}
 use Rattle.jq_fold_steps.specs.declared.fold_steps.FoldState.TheVariants as state
 

@@ -5,7 +5,7 @@ use Rattle.jq_folds.specs.Pieces.{FoldState}
 use Rattle.jq_meaning.specs.Env.{outermost, with_variables}
 use Rattle.jq_meaning.specs.Runs.{none}
 use Rattle.jq_pages.specs.Folds.{Fold}
-use Rattle.jq_stream.specs.declared.filters.Filter.{Filter}
+use Rattle.jq_filters.specs.declared.filters.Filter.{Filter}
 use Rattle.jq_syntax.specs.Chosen.{Chosen}
 use Rattle.jq_tree.specs.Prelude.{followed_by}
 use Rattle.jq_tree.specs.Tree.{Tree}

@@ -9,7 +9,7 @@ use Rattle.jq_folds.specs.Folding.{FoldAt, steps_of}
 use Rattle.jq_folds.specs.Pieces.{FoldState, stopped, Stepped, begun, Steps, step_from, close_from}
 use Rattle.jq_pages.specs.Folds as pages
 use Rattle.jq_pages.specs.Pieces.{PieceView}
-use Rattle.jq_stream.specs.Pieces.{piece_of}
+use Rattle.jq_filters.specs.Pieces.{piece_of}
 
 -- ---- the runs
 

@@ -7,7 +7,7 @@ ghost use Rattle.jq_engine.specs.Engine.{IsRest};
 ghost use Rattle.jq_folds.specs.Pieces.{Stepped, with_state};
 ghost use Rattle.jq_folds.specs.laws.States.{LeadsTo};
 ghost use Rattle.jq_pages.specs.Pieces.{piece_view};
-ghost use Rattle.jq_stream.specs.Pieces.{piece_of};
+ghost use Rattle.jq_filters.specs.Pieces.{piece_of};
 ghost use Rattle.jq_fold_steps.specs.private.Collecting.{IsHeld, IsKept, piece_so_far};
 
 use crate::fold_steps::FoldState;

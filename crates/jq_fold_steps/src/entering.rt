@@ -6,9 +6,9 @@ ghost use Rattle.jq_fold_steps.specs.Bindings.{env_of};
 ghost use Rattle.jq_fold_steps.specs.private.Entered.{entered_in, IsEntered};
 
 use crate::placing::{Parts, Place, enter_definitions};
+use jq_filters::Runner;
 use jq_state::frames::Scope;
 use jq_state::states::State;
-use jq_stream::Runner;
 use jv_data::NoMemory;
 use std::alloc::Global;
 

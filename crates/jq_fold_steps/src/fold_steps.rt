@@ -9,9 +9,9 @@ ghost use Rattle.jq_starts.specs.Starts.{starts_in};
 
 use crate::making::{first_piece, last_piece, next_piece};
 use crate::pieces::empty_piece;
+use jq_filters::Filter;
 use jq_pages::{Piece, Steps};
 use jq_starts::Starts;
-use jq_stream::Filter;
 use jv_data::{NoMemory, Val, same};
 use std::alloc::Global;
 use std::rc::Rc;

@@ -2,10 +2,10 @@
 ghost use Rattle.jq_fold_steps.specs.laws.Compiled.{CompiledFoldsAreFoldable, CompiledFoldsWriteOutcomes, FoldsComeAfterThePrelude};
 ghost use Rattle.jq_fold_steps.specs.laws.Outcomes.{FoldsWriteOutcomes};
 
+use jq_filters::laws::functions_come_after_the_variables;
 use jq_folds::laws::{
     a_fold_is_its_pieces, definitions_leave_inputs_alone, states_and_endings_of_pieces,
 };
-use jq_stream::laws::functions_come_after_the_variables;
 use jq_syntax::prelude_laws::{prelude_is_accepted, prelude_leaves_inputs_alone};
 
 /// The pieces of a fold, one after the other, are the output, the errors and the status of the one run of its filter.

@@ -16,10 +16,10 @@ use crate::collecting::{collect_all, collect_step};
 use crate::fold_steps::FoldState;
 use crate::pieces::empty_piece;
 use crate::starting;
+use jq_filters::Filter;
 use jq_folds::laws::states_and_endings_of_pieces;
 use jq_pages::Piece;
 use jq_starts::Starts;
-use jq_stream::Filter;
 use jv_data::{NoMemory, Val};
 use std::alloc::Global;
 

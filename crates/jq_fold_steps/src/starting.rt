@@ -20,6 +20,7 @@ use crate::entering::{Entered, enter};
 use crate::placing::{Closing, Extraction};
 use crate::taking::take_input;
 use jq_engine::Engine;
+use jq_filters::{Runner, no_inputs};
 use jq_folds::laws::the_machine_makes_the_pieces;
 use jq_machine::laws::{heights_stay_in_range, the_machine_makes_the_run_of_a_filter};
 use jq_starts::Starts;
@@ -27,7 +28,6 @@ use jq_state::frames::Scope;
 use jq_state::inputs::Inputs;
 use jq_state::items::Item;
 use jq_state::next::Next;
-use jq_stream::Runner;
 use jv_data::{NoMemory, Val};
 use std::alloc::Global;
 
@@ -127,15 +127,5 @@ fn after_fold<'p>(closing: Closing<'p>, scope: Scope, last: Item) -> Next<'p>
     match closing {
         Closing::Nothing => Next::Give(last),
         Closing::Pipe(filter) => Next::Evaluate(filter, scope, last),
-    }
-}
-
-// The inputs where none remain.
-fn no_inputs(alloc: Global) -> Inputs
-    ensures { inputs_of result ≡ none }
-{
-    Inputs {
-        values: Vec::new(alloc),
-        fault: None,
     }
 }

@@ -17,7 +17,7 @@ use Rattle.jq_pages.specs.declared.splices.Splice.{Splice}
 use Rattle.jq_syntax.specs.Chosen.{Chosen}
 use Rattle.jq_syntax.specs.declared.faults.CompileFault.{CompileFault}
 use Rattle.jq_syntax.specs.declared.faults.CompileFault.TheVariants as fault
-use Rattle.jq_stream.specs.declared.filters.Filter.{Filter}
+use Rattle.jq_filters.specs.declared.filters.Filter.{Filter}
 use Rattle.jq_session.specs.States.{State, after, after_move, outcome, refiltered}
 use Rattle.jq_session.specs.declared.splices.Follow.{Follow}
 use Rattle.jq_script.specs.Answers.{answer_line, changes, ok_answer, refused_answer, spaced, splice_answer}

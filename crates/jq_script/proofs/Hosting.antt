@@ -1,8 +1,8 @@
 -- A session that takes another filter.
 use Rattle.std.proofs.Common.{◌≡◌, ◌+◌, ℕ, List, subst, arith}
 use Rattle.std.specs.Str.{IsUtf8, chars}
-use Rattle.jq_stream.specs.Filters.{IsFilterOf}
-use Rattle.jq_stream.specs.declared.filters.Filter.{Filter}
+use Rattle.jq_filters.specs.Filters.{IsFilterOf}
+use Rattle.jq_filters.specs.declared.filters.Filter.{Filter}
 use Rattle.jq_syntax.specs.Chosen.{Chosen, setting}
 use Rattle.jq_syntax.specs.Compiled.{IsRefusal}
 use Rattle.jq_syntax.specs.declared.faults.CompileFault.{CompileFault}

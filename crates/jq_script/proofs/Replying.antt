@@ -12,7 +12,7 @@ use Rattle.jq_syntax.specs.Chosen.{setting}
 use Rattle.jq_syntax.specs.Compiled.{IsRefusal as IsFilterRefusal}
 use Rattle.jq_syntax.specs.declared.faults.CompileFault.{CompileFault}
 use Rattle.jq_syntax.specs.declared.faults.CompileFault.TheVariants as compile_fault
-use Rattle.jq_stream.specs.declared.filters.Filter.{Filter}
+use Rattle.jq_filters.specs.declared.filters.Filter.{Filter}
 use Rattle.jq_session.specs.Sessions.{IsMoveRefusal, IsRefusal}
 use Rattle.jq_session.specs.Splices.{Follows, FollowsFilter, FollowsMove}
 use Rattle.jq_session.specs.Starts.{IsFirstRun}

@@ -11,8 +11,8 @@ use Rattle.jq_syntax.specs.Chosen.{Chosen, setting}
 use Rattle.jq_syntax.specs.Compiled.{IsRefusal}
 use Rattle.jq_syntax.specs.declared.faults.CompileFault.{CompileFault}
 use Rattle.jq_syntax.specs.declared.faults.CompileFault.TheVariants as fault
-use Rattle.jq_stream.specs.Filters.{IsFilterOf}
-use Rattle.jq_stream.specs.declared.filters.Filter.{Filter}
+use Rattle.jq_filters.specs.Filters.{IsFilterOf}
+use Rattle.jq_filters.specs.declared.filters.Filter.{Filter}
 use Rattle.jq_session.specs.Splices.{Follows, FollowsFilter, FollowsMove}
 use Rattle.jq_session.specs.Starts.{IsFirstRun, IsMoveStarted, IsStarted}
 use Rattle.jq_session.specs.States.{State, outcome, after, after_move, refiltered}

@@ -1,9 +1,9 @@
 // The session that scripts are served from.
 ghost use Rattle.std.specs.Prelude.{IsSome};
 
+use jq_filters::Filter;
 use jq_session::{Follow, Session};
 use jq_starts::Starts;
-use jq_stream::Filter;
 use jv_data::NoMemory;
 
 /// A session, and the count of starts for its next filter.

@@ -1,7 +1,7 @@
 // The instruction of a line is carried out.
 ghost use Rattle.std.specs.Prelude.{◌≡◌, IfErr, IfOk};
 ghost use Rattle.std.specs.Str.{IsUtf8, chars};
-ghost use Rattle.jq_stream.specs.Filters.{IsFilterOf};
+ghost use Rattle.jq_filters.specs.Filters.{IsFilterOf};
 ghost use Rattle.jq_syntax.specs.Chosen.{chosen, setting};
 ghost use Rattle.jq_syntax.specs.Compiled.{IsRefusal};
 ghost use Rattle.jq_script.specs.Serving.{point_of};
@@ -12,8 +12,8 @@ use crate::host::Host;
 use crate::options::copy_options;
 use crate::replies::{Refused, Reply, reply_to};
 use crate::requests::Instruction;
+use jq_filters::Filter;
 use jq_session::Follow;
-use jq_stream::Filter;
 use jq_syntax::{CompileFault, Options};
 use jv_data::NoMemory;
 use std::alloc::Global;

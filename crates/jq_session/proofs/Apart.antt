@@ -15,12 +15,12 @@ use Rattle.jq_pages.specs.Pieces.{PieceView}
 use Rattle.jq_pages.specs.Splices.{came, closing}
 use Rattle.jq_pages.specs.Totals.{totals}
 use Rattle.jq_pages.specs.declared.changes.Change.{Change}
-use Rattle.jq_stream.specs.Filters.{filter_job, filter_mode}
-use Rattle.jq_stream.specs.Outcomes.{Job, on_each, printed_of, ending_report}
-use Rattle.jq_stream.specs.Pieces.{each_fold, piece_of, status_in}
-use Rattle.jq_stream.specs.Present.{run_count, values_outcome}
-use Rattle.jq_stream.specs.Unhalted.{NeverHalts}
-use Rattle.jq_stream.specs.declared.filters.Filter.{Filter}
+use Rattle.jq_filters.specs.Filters.{filter_job, filter_mode}
+use Rattle.jq_filters.specs.Outcomes.{Job, on_each, printed_of, ending_report}
+use Rattle.jq_filters.specs.Pieces.{each_fold, piece_of, status_in}
+use Rattle.jq_filters.specs.Present.{run_count, values_outcome}
+use Rattle.jq_filters.specs.Unhalted.{NeverHalts}
+use Rattle.jq_filters.specs.declared.filters.Filter.{Filter}
 use Rattle.jq_session.specs.Splices.{IsPut, written_for}
 use Rattle.jq_session.specs.Starts.{AllowedMove, AllowedStarts, first_starts}
 use Rattle.jq_session.specs.States.{each, filter_plan, plan_in, state_in}

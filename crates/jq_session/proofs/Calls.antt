@@ -1,7 +1,7 @@
 -- Calls of a session, one after the other.
 use Rattle.std.proofs.Common.{◌≡◌, ℕ, List, [], ◌∷◌, Some, None, Result, Ok, Err, refl, sym, ap, ◌∙◌, subst, arith}
 use Rattle.jv_meaning.specs.Value.{Value}
-use Rattle.jq_stream.specs.Present.{values_outcome}
+use Rattle.jq_filters.specs.Present.{values_outcome}
 use Rattle.jq_pages.specs.Edits.{Reason, edited}
 use Rattle.jq_pages.specs.Folds.{Rises}
 use Rattle.jq_pages.specs.Moves.{moved}

@@ -7,10 +7,10 @@ use Rattle.jq_fold_steps.specs.laws.Outcomes.{IsOutcome}
 use Rattle.jq_inputs.specs.Plans.{view_of}
 use Rattle.jq_pages.specs.Contents.{folded_in}
 use Rattle.jq_pages.specs.Folds.{Fold, Rises}
-use Rattle.jq_stream.specs.Filters.{filter_job, filter_mode}
-use Rattle.jq_stream.specs.Outcomes.{on_null}
-use Rattle.jq_stream.specs.Present.{values_outcome}
-use Rattle.jq_stream.specs.declared.filters.Filter.{Filter}
+use Rattle.jq_filters.specs.Filters.{filter_job, filter_mode}
+use Rattle.jq_filters.specs.Outcomes.{on_null}
+use Rattle.jq_filters.specs.Present.{values_outcome}
+use Rattle.jq_filters.specs.declared.filters.Filter.{Filter}
 use Rattle.jq_tree.specs.Filter as filter
 use Rattle.jq_session.specs.Splices.{IsPut, PutsChange}
 use Rattle.jq_session.specs.Starts.{AllowedMove, AllowedStarts, first_starts}

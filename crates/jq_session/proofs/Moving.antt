@@ -13,7 +13,7 @@ use Rattle.jv_data.specs.declared.values.Val.{Val}
 use Rattle.jq_pages.specs.Edits.{Edit, Reason, edited, insert, remove, most_inputs}
 use Rattle.jq_pages.specs.Folds.{Rises}
 use Rattle.jq_pages.specs.Moves.{moved, moved_input}
-use Rattle.jq_stream.specs.Present.{run_count}
+use Rattle.jq_filters.specs.Present.{run_count}
 use Rattle.jq_session.specs.Splices.{Follows, FollowsMove}
 use Rattle.jq_session.specs.Starts.{AllowedMove, IsMoveStarted}
 use Rattle.jq_session.specs.States.{State, Halves, after, after_move, over, whole, with_inputs}

@@ -23,8 +23,8 @@ use Rattle.jq_pages.specs.declared.changes.Moved.{Moved}
 use Rattle.jq_pages.specs.declared.refusals.Refusal as pages_refusal_type
 use Rattle.jq_pages.specs.declared.refusals.Refusal.TheVariants as pages_refusal
 use Rattle.jq_pages.specs.declared.splices.Splice.{Splice}
-use Rattle.jq_stream.specs.Pieces.{status_in}
-use Rattle.jq_stream.specs.declared.filters.Filter.{Filter}
+use Rattle.jq_filters.specs.Pieces.{status_in}
+use Rattle.jq_filters.specs.declared.filters.Filter.{Filter}
 use Rattle.jq_session.specs.Sessions.{IsMoveRefusal, IsRefusal}
 use Rattle.jq_session.specs.Splices.{Follows, FollowsMove, IsPut, PutsPieces}
 use Rattle.jq_session.specs.Starts.{AllowedMove, AllowedStarts, IsFirstRun, IsMoveStarted, IsStarted}

@@ -8,9 +8,9 @@ use Rattle.jq_fold_steps.specs.laws.Compiled.{FoldsComeAfterThePrelude}
 use Rattle.jq_inputs.specs.Halting.{CallsNoHalt}
 use Rattle.jq_inputs.specs.Plans.{view_of}
 use Rattle.jq_pages.specs.Folds.{Fold}
-use Rattle.jq_stream.specs.Accepted.{mode_in}
-use Rattle.jq_stream.specs.Filters.{filter_mode}
-use Rattle.jq_stream.specs.Outcomes.{Mode, on_each, on_null, on_all}
+use Rattle.jq_filters.specs.Accepted.{mode_in}
+use Rattle.jq_filters.specs.Filters.{filter_mode}
+use Rattle.jq_filters.specs.Outcomes.{Mode, on_each, on_null, on_all}
 use Rattle.jq_syntax.specs.Chosen.{Chosen}
 use Rattle.jq_tree.specs.Filter as filter
 use Rattle.jq_tree.specs.Filter.{HasPlan, plan_per_input, plan_slurp, plan_fold, plan_other_null, reads}

@@ -3,7 +3,7 @@ use Rattle.std.proofs.Common.{◌≡◌, ℕ, Ok, sym, subst}
 use Rattle.std.specs.Prelude.{MatchResult}
 use Rattle.jq_pages.specs.Edits.{Edit}
 use Rattle.jq_pages.specs.Folds.{Rises}
-use Rattle.jq_stream.specs.Present.{run_count}
+use Rattle.jq_filters.specs.Present.{run_count}
 use Rattle.jq_session.specs.Starts.{AllowedStarts, IsStarted}
 use Rattle.jq_session.specs.States.{State, after, whole}
 

@@ -15,12 +15,12 @@ use Rattle.jq_pages.specs.Pieces.{PieceView}
 use Rattle.jq_pages.specs.Totals.{earlier, later, totals}
 use Rattle.jq_pages.specs.declared.pieces.Last.{Last}
 use Rattle.jq_pages.specs.declared.pieces.Last.TheVariants as last
-use Rattle.jq_stream.specs.Filters.{filter_job, filter_mode}
-use Rattle.jq_stream.specs.Outcomes.{Job, on_each, printed_of, ending_report, is_failure, halt_status, runs_printed, runs_reported, any_failure, last_by, last_item, last_output, nothing, falsy, truthy, end_status, first_halt, up_to_halt, unless_halted}
-use Rattle.jq_stream.specs.Outcomes as outcomes
-use Rattle.jq_stream.specs.Pieces.{last_in, last_of, no_piece, piece_of}
-use Rattle.jq_stream.specs.Present.{values_outcome}
-use Rattle.jq_stream.specs.declared.filters.Filter.{Filter}
+use Rattle.jq_filters.specs.Filters.{filter_job, filter_mode}
+use Rattle.jq_filters.specs.Outcomes.{Job, on_each, printed_of, ending_report, is_failure, halt_status, runs_printed, runs_reported, any_failure, last_by, last_item, last_output, nothing, falsy, truthy, end_status, first_halt, up_to_halt, unless_halted}
+use Rattle.jq_filters.specs.Outcomes as outcomes
+use Rattle.jq_filters.specs.Pieces.{last_in, last_of, no_piece, piece_of}
+use Rattle.jq_filters.specs.Present.{values_outcome}
+use Rattle.jq_filters.specs.declared.filters.Filter.{Filter}
 use Rattle.jq_session.specs.Halting.{halting_fold, halting_step}
 use Rattle.jq_session.specs.Splices.{IsPut, PutsChange}
 use Rattle.jq_session.specs.Starts.{AllowedMove, AllowedStarts, first_starts}

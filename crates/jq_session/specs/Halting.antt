@@ -4,8 +4,8 @@ use Rattle.jv_meaning.specs.Value.{Value}
 use Rattle.jq_meaning.specs.Runs.{none}
 use Rattle.jq_pages.specs.Folds.{Fold}
 use Rattle.jq_pages.specs.Pieces.{PieceView}
-use Rattle.jq_stream.specs.Outcomes.{Job, halt_status}
-use Rattle.jq_stream.specs.Pieces.{no_piece, piece_of}
+use Rattle.jq_filters.specs.Outcomes.{Job, halt_status}
+use Rattle.jq_filters.specs.Pieces.{no_piece, piece_of}
 
 -- The state says whether a run halted. Then nothing more is run.
 abbrev pub halting_step : Job → (halted : Bool) → Value → PieceView × Bool

@@ -6,7 +6,7 @@ use Rattle.jq_pages.specs.Contents as pages
 use Rattle.jq_pages.specs.Edits.{Reason, no_place, full, most_inputs}
 use Rattle.jq_pages.specs.declared.steps.Steps.{Ghosts}
 use Rattle.jq_starts.specs.Starts.{starts_in}
-use Rattle.jq_stream.specs.Filters.{filter_job, filter_mode}
+use Rattle.jq_filters.specs.Filters.{filter_job, filter_mode}
 use Rattle.jq_syntax.specs.Chosen.{Chosen, chosen}
 use Rattle.jq_session.specs.States.{State, Point, point, state_in, whole}
 use Rattle.jq_session.specs.declared.kept.Kept.{Kept}

@@ -10,7 +10,7 @@ use Rattle.jq_pages.specs.Pieces.{PieceView}
 use Rattle.jq_pages.specs.Splices.{IsSplice, came}
 use Rattle.jq_pages.specs.declared.changes.Change.{Change}
 use Rattle.jq_pages.specs.declared.splices.Splice.{Splice}
-use Rattle.jq_stream.specs.Outcomes.{Job, printed_of, ending_report}
+use Rattle.jq_filters.specs.Outcomes.{Job, printed_of, ending_report}
 use Rattle.jq_session.specs.Halting.{halting_fold}
 use Rattle.jq_session.specs.States.{Plan, each, fold, until_halt, whole, State, Halves, outcome}
 use Rattle.jq_session.specs.declared.splices.Follow.{Follow}

@@ -5,7 +5,7 @@ use Rattle.jq_pages.specs.Changes.{IsMeeting}
 use Rattle.jq_pages.specs.Contents.{folded_in}
 use Rattle.jq_pages.specs.Edits.{Edit, added, insert, place, remove}
 use Rattle.jq_pages.specs.Folds.{Fold, Rises}
-use Rattle.jq_stream.specs.Present.{run_count}
+use Rattle.jq_filters.specs.Present.{run_count}
 use Rattle.jq_session.specs.Halting.{halting_fold}
 use Rattle.jq_session.specs.States.{Plan, each, fold, until_halt, whole, State, Halves, after, after_move}
 

@@ -8,10 +8,10 @@ use Rattle.jq_inputs.specs.Plans.{view_of}
 use Rattle.jq_pages.specs.Edits.{Edit, Reason, edited, insert, remove}
 use Rattle.jq_pages.specs.Folds.{Fold}
 use Rattle.jq_pages.specs.Moves.{moved}
-use Rattle.jq_stream.specs.Filters.{filter_job, filter_mode}
-use Rattle.jq_stream.specs.Outcomes.{Mode, on_each, on_null, on_all, Job, Outcome}
-use Rattle.jq_stream.specs.Present.{values_outcome}
-use Rattle.jq_stream.specs.declared.filters.Filter.{Filter}
+use Rattle.jq_filters.specs.Filters.{filter_job, filter_mode}
+use Rattle.jq_filters.specs.Outcomes.{Mode, on_each, on_null, on_all, Job, Outcome}
+use Rattle.jq_filters.specs.Present.{values_outcome}
+use Rattle.jq_filters.specs.declared.filters.Filter.{Filter}
 use Rattle.jq_syntax.specs.Chosen.{Chosen}
 use Rattle.jq_tree.specs.Filter as filter
 use Rattle.jq_tree.specs.Inputs.{FoldShape}

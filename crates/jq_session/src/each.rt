@@ -5,12 +5,13 @@ ghost use Rattle.jq_meaning.specs.Runs.{none};
 ghost use Rattle.jq_pages.specs.Folds.{Rises};
 ghost use Rattle.jq_pages.specs.Pieces.{piece_view};
 ghost use Rattle.jq_starts.specs.Starts.{starts_in};
-ghost use Rattle.jq_stream.specs.Filters.{filter_job};
-ghost use Rattle.jq_stream.specs.Pieces.{each_fold, no_piece, piece_of};
+ghost use Rattle.jq_filters.specs.Filters.{filter_job};
+ghost use Rattle.jq_filters.specs.Pieces.{each_fold, no_piece, piece_of};
 
+use jq_filters::Filter;
 use jq_pages::{Last, Piece, Steps};
 use jq_starts::Starts;
-use jq_stream::{Filter, run_piece};
+use jq_stream::run_piece;
 use jv_data::{NoMemory, Val};
 use std::alloc::Global;
 use std::rc::Rc;

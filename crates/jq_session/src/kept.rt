@@ -14,9 +14,9 @@ use crate::plans::{Following, plan_for};
 use crate::refusals::NotStarted;
 use crate::until_halt::UntilHalt;
 use crate::whole::WholeSession;
+use jq_filters::Filter;
 use jq_fold_steps::FoldSteps;
 use jq_starts::Starts;
-use jq_stream::Filter;
 use jv_data::{NoMemory, Val};
 use std::alloc::Global;
 

@@ -9,10 +9,10 @@ use crate::splices::Follow;
 use crate::statuses::status_of;
 use crate::writing::{Part, bytes_in, write_pieces};
 use jq_devices::{Watched, Write};
+use jq_filters::Filter;
 use jq_pages::{
     Edited, NotStarted as PagesNotStarted, Pages, Steps, totals_count_bytes_and_failures,
 };
-use jq_stream::Filter;
 use jv_data::{NoMemory, Val};
 use std::alloc::Global;
 use std::rc::Rc;

@@ -1,8 +1,8 @@
 // How a session follows an edit.
 ghost use Rattle.jq_session.specs.private.Plans.{IsFollowing};
 
+use jq_filters::{Filter, Mode};
 use jq_inputs::Plan;
-use jq_stream::{Filter, Mode};
 
 /// How a session follows an edit.
 #[derive(Clone, Copy)]

@@ -1,7 +1,7 @@
 // The status by the totals of all pieces.
 ghost use Rattle.std.specs.Prelude.{◌≡◌, nat_lt};
-ghost use Rattle.jq_stream.specs.Outcomes.{end_status};
-ghost use Rattle.jq_stream.specs.Pieces.{last_of, status_in};
+ghost use Rattle.jq_filters.specs.Outcomes.{end_status};
+ghost use Rattle.jq_filters.specs.Pieces.{last_of, status_in};
 
 use jq_pages::{Last, Totals};
 

@@ -1,13 +1,13 @@
 // A filter on each input up to the first whose run halts.
 ghost use Rattle.std.specs.Prelude.{◌≡◌, Bool};
 ghost use Rattle.jq_starts.specs.Starts.{starts_in};
-ghost use Rattle.jq_stream.specs.Filters.{filter_job};
+ghost use Rattle.jq_filters.specs.Filters.{filter_job};
 ghost use Rattle.jq_session.specs.Halting.{halting_fold};
 
 use crate::each::{no_piece, run_input};
+use jq_filters::Filter;
 use jq_pages::{Piece, Steps};
 use jq_starts::Starts;
-use jq_stream::Filter;
 use jv_data::{NoMemory, Val};
 use std::alloc::Global;
 use std::rc::Rc;

@@ -4,17 +4,18 @@ ghost use Rattle.jv_data.specs.View.{view};
 ghost use Rattle.jq_pages.specs.Edits.{most_inputs};
 ghost use Rattle.jq_pages.specs.Folds.{Rises};
 ghost use Rattle.jq_starts.specs.Starts.{starts_in};
-ghost use Rattle.jq_stream.specs.Filters.{filter_job, filter_mode};
-ghost use Rattle.jq_stream.specs.Present.{run_count, values_outcome};
+ghost use Rattle.jq_filters.specs.Filters.{filter_job, filter_mode};
+ghost use Rattle.jq_filters.specs.Present.{run_count, values_outcome};
 ghost use Rattle.jq_session.specs.Splices.{ReplacesAll};
 
 use crate::listing::joined;
 use crate::refusals::{NotStarted, Refusal};
 use crate::splices::{Follow, replace_all};
 use jq_devices::{Watched, Write, write};
+use jq_filters::Filter;
 use jq_pages::MOST_INPUTS;
 use jq_starts::Starts;
-use jq_stream::{Filter, Written, run_values};
+use jq_stream::{Written, run_values};
 use jv_data::{NoMemory, Val, copies};
 use std::alloc::Global;
 

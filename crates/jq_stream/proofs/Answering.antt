@@ -13,16 +13,17 @@ use Rattle.jv_text.specs.declared.cutting.Cutter.{Cutter}
 use Rattle.jv_text.specs.declared.printing.Style.{Style}
 use Rattle.jq_meaning.specs.Runs.{Run, Item, none}
 use Rattle.jq_devices.specs.Writing.{AppendsFirst}
-use Rattle.jq_stream.specs.Outcomes.{Job, Last, runs_printed, runs_reported, any_failure, last_output, first_halt, end_status}
+use Rattle.jq_filters.specs.Outcomes.{Job, Last, runs_printed, runs_reported, any_failure, last_output, first_halt, end_status}
 use Rattle.jq_stream.specs.Streams.{Outputs}
-use Rattle.jq_stream.specs.Pieces.{last_of}
-use Rattle.jq_stream.specs.private.Answering.{IsAnswered, IsAnsweredFirst, EndsInHalt, MayBeMade, IsPrinted, IsPrintedFirst, HasEmptyBuffers, IsFresh, last_after, last_after_items, runs_on}
+use Rattle.jq_filters.specs.Pieces.{last_of}
+use Rattle.jq_filters.specs.Made.{EndsInHalt, MayBeMade}
+use Rattle.jq_stream.specs.private.Answering.{IsAnswered, IsAnsweredFirst, IsPrinted, IsPrintedFirst, HasEmptyBuffers, IsFresh, last_after, last_after_items, runs_on}
 use Rattle.jq_stream.specs.private.Cutting.{IsReached, IsReadied}
 use Rattle.jq_stream.specs.private.Sending.{IsSent, IsSentFirst}
 use Rattle.jq_stream.specs.declared.answers.OutputBuffers.{OutputBuffers}
 use Rattle.jq_stream.specs.declared.answers.Reached.{Reached}
 use Rattle.jq_stream.specs.declared.answers.Reached.TheVariants as reached
-use Rattle.jq_stream.proofs.Halting.{none_halts, made_after, one_made, still_unhalted, halts_after}
+use Rattle.jq_filters.proofs.shared.Halting.{none_halts, made_after, one_made, still_unhalted, halts_after}
 use Rattle.jq_stream.proofs.LastOutputs.{last_from_none}
 use Rattle.jq_stream.proofs.Sending.{sent_none, sent_more, sent_then_first, first_of_sent, first_sent, all_written, first_written}
 

@@ -8,15 +8,16 @@ use Rattle.jv_data.specs.View.{view}
 use Rattle.jv_data.specs.declared.values.Val.{Val}
 use Rattle.jv_text.specs.declared.printing.Style.{Style}
 use Rattle.jq_meaning.specs.Runs.{Run, Item, none}
-use Rattle.jq_stream.specs.Outcomes.{Job, end_status, first_halt, on_each, runs_reported, unless_halted, up_to_halt}
-use Rattle.jq_stream.specs.Present.{run_count}
+use Rattle.jq_filters.specs.Outcomes.{Job, end_status, first_halt, on_each, runs_reported, unless_halted, up_to_halt}
+use Rattle.jq_filters.specs.Present.{run_count}
 use Rattle.jq_stream.specs.Streams.{Outputs}
-use Rattle.jq_stream.specs.Pieces.{last_of}
-use Rattle.jq_stream.specs.private.Answering.{EndsInHalt, HasEmptyBuffers, IsAnswered, IsFresh, runs_on}
+use Rattle.jq_filters.specs.Pieces.{last_of}
+use Rattle.jq_filters.specs.Made.{EndsInHalt}
+use Rattle.jq_stream.specs.private.Answering.{HasEmptyBuffers, IsAnswered, IsFresh, runs_on}
 use Rattle.jq_stream.specs.private.Valued.{IsValuesRun}
 use Rattle.jq_stream.specs.declared.answers.OutputBuffers.{OutputBuffers}
 use Rattle.jq_stream.proofs.Answering.{buffers_written, halted_more, one_halts, runs_both, status_of_runs, unhalted_more, values_more, whole_written}
-use Rattle.jq_stream.proofs.Halting.{cut_after, halts_still, made_before, none_halts, nothing_more, one_further, same_halt}
+use Rattle.jq_filters.proofs.shared.Halting.{cut_after, halts_still, made_before, none_halts, nothing_more, one_further, same_halt}
 
 -- one more value is the copy of the next one
 next_value : (values : List Val) (i : ℕ) (copy value : Val) → i < length values → value ≡ get_or values i value → view copy ≡ view value

@@ -13,15 +13,16 @@ use Rattle.jq_devices.proofs.shared.Writing.{first_after, first_longer, first_no
 use Rattle.jq_devices.specs.Writing.{AppendsFirst}
 use Rattle.jq_devices.specs.declared.faults.StreamFault.{StreamFault}
 use Rattle.jq_devices.specs.declared.faults.StreamFault.TheVariants.{Read, Write, NoMemory}
-use Rattle.jq_stream.specs.Outcomes.{Outcome, Mode, on_each, Job, runs_printed, runs_reported, up_to_halt, first_halt, unless_halted, end_status, status_after, end_reported, text_line, stream_outcome}
-use Rattle.jq_stream.specs.Present.{present}
+use Rattle.jq_filters.specs.Outcomes.{Outcome, Mode, on_each, Job, runs_printed, runs_reported, up_to_halt, first_halt, unless_halted, end_status, status_after, end_reported, text_line, stream_outcome}
+use Rattle.jq_filters.specs.Present.{present}
 use Rattle.jq_stream.specs.Streams.{Outputs, Streams, Writes, IsStreamRun, streams}
 use Rattle.jq_stream.specs.Stopped.{WritesFirst, IsReadStopped, IsWriteStopped, IsStreamStopped, IsOnePass}
-use Rattle.jq_stream.specs.Pieces.{last_of}
-use Rattle.jq_stream.specs.private.Answering.{EndsInHalt, IsAnswered, MayBeMade, HasEmptyBuffers, IsFresh, runs_on}
+use Rattle.jq_filters.specs.Pieces.{last_of}
+use Rattle.jq_filters.specs.Made.{EndsInHalt, MayBeMade}
+use Rattle.jq_stream.specs.private.Answering.{IsAnswered, HasEmptyBuffers, IsFresh, runs_on}
 use Rattle.jq_stream.specs.declared.answers.OutputBuffers.{OutputBuffers}
 use Rattle.jq_stream.proofs.Answering.{FirstWritten, answered_none, halted_more, made_more, status_of_runs, unhalted_more, values_more, whole_written, runs_both, printed_both, reported_both}
-use Rattle.jq_stream.proofs.Halting.{cut_after, made_first, made_outcome, none_halts, outcome_made}
+use Rattle.jq_filters.proofs.shared.Halting.{cut_after, made_first, made_outcome, none_halts, outcome_made}
 use Rattle.jq_stream.proofs.Giving.{nothing_given}
 use Rattle.jq_stream.proofs.Known.{known, whole_known, consumed_whole, whole_input, faulted_input, part_read, part_values}
 

@@ -3,7 +3,7 @@ use Rattle.std.proofs.Common.{◌≡◌, List, [], ◌∷◌, ◌++◌, sym, ◌
 use Rattle.std.specs.List.{flat_map}
 use Rattle.jq_natives.specs.Answers.{is_true}
 use Rattle.jq_meaning.specs.Runs.{Run, Item, value_in}
-use Rattle.jq_stream.specs.Outcomes.{Last, last_by, last_item, last_output, nothing}
+use Rattle.jq_filters.specs.Outcomes.{Last, last_by, last_item, last_output, nothing}
 use Rattle.jq_stream.specs.private.Answering.{last_after, last_after_items}
 
 -- what came before some items does not matter

@@ -1,9 +1,7 @@
-pub mod Around
 pub mod Blaming
 pub mod Sending
 pub mod Printing
 pub mod LastOutputs
-pub mod Halting
 pub mod Answering
 pub mod Turning
 pub mod Giving
@@ -14,6 +12,3 @@ pub mod Once
 pub mod Texts
 pub mod Copying
 pub mod Piecing
-pub mod Accepting
-pub mod Unhalted
-pub mod NeverHalting

@@ -14,23 +14,23 @@ use Rattle.jq_devices.proofs.shared.Writing.{first_longer, first_nothing}
 use Rattle.jq_devices.specs.Writing.{AppendsFirst}
 use Rattle.jq_devices.specs.declared.faults.StreamFault.{StreamFault}
 use Rattle.jq_devices.specs.declared.faults.StreamFault.TheVariants.{Read}
-use Rattle.jq_stream.specs.Outcomes.{Outcome, Mode, on_each, on_null, on_all, Job, runs_reported, first_halt, unless_halted, end_status, inputs_in, text_line, stream_outcome}
-use Rattle.jq_stream.specs.Runner.{job_of}
-use Rattle.jq_stream.specs.Running.{run_on}
+use Rattle.jq_filters.specs.Outcomes.{Outcome, Mode, on_each, on_null, on_all, Job, runs_reported, first_halt, unless_halted, end_status, inputs_in, text_line, stream_outcome}
+use Rattle.jq_filters.specs.Runner.{job_of}
+use Rattle.jq_filters.specs.Running.{run_on}
 use Rattle.jq_stream.specs.Streams.{Outputs, Streams, Writes, IsStreamRun, streams}
 use Rattle.jq_stream.specs.Stopped.{WritesFirst, whole_texts, IsWriteStopped}
-use Rattle.jq_stream.specs.Pieces.{last_of}
+use Rattle.jq_filters.specs.Pieces.{last_of}
 use Rattle.jq_stream.specs.private.Answering.{IsAnswered, IsAnsweredFirst, HasEmptyBuffers, IsFresh}
 use Rattle.jq_stream.specs.Texts.{EndsAs}
 use Rattle.jq_stream.specs.private.Gathering.{IsGathered, stop_ending}
-use Rattle.jq_stream.specs.Present.{present, run_count}
+use Rattle.jq_filters.specs.Present.{present, run_count}
 use Rattle.jq_stream.specs.private.Once.{IsRunOnce, run_outcome}
 use Rattle.jq_stream.specs.private.Valued.{runs_by_mode}
 use Rattle.jq_stream.specs.declared.answers.OutputBuffers.{OutputBuffers}
-use Rattle.jq_stream.specs.declared.runner.Runner.{Runner}
-use Rattle.jq_stream.specs.declared.settings.Settings.{Settings}
+use Rattle.jq_filters.specs.declared.runner.Runner.{Runner}
+use Rattle.jq_filters.specs.declared.settings.Settings.{Settings}
 use Rattle.jq_stream.proofs.Answering.{buffers_written, first_buffers_written, first_of_answered, status_of_runs, whole_written}
-use Rattle.jq_stream.proofs.Halting.{made_outcome, nothing_more, one_made, outcome_made}
+use Rattle.jq_filters.proofs.shared.Halting.{made_outcome, nothing_more, one_made, outcome_made}
 use Rattle.jq_stream.proofs.Known.{known, whole_known}
 
 abbrev WritesTo : Outputs → Outputs → Outcome → Type 0

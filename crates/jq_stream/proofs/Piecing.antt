@@ -17,16 +17,16 @@ use Rattle.jq_pages.specs.Totals.{earlier, later, totals}
 use Rattle.jq_pages.specs.declared.pieces.Last.{Last}
 use Rattle.jq_pages.specs.declared.pieces.Last.TheVariants as last
 use Rattle.jq_pages.specs.declared.pieces.Piece.{Piece}
-use Rattle.jq_stream.specs.Outcomes.{Job, on_each, printed_of, ending_report, is_failure, halt_status, runs_printed, runs_reported, any_failure, last_by, last_item, last_output, nothing, falsy, truthy, end_status, first_halt, up_to_halt, unless_halted}
-use Rattle.jq_stream.specs.Outcomes as outcomes
-use Rattle.jq_stream.specs.Pieces.{each_fold, last_in, last_of, no_piece, piece_of, status_in}
-use Rattle.jq_stream.specs.Present.{run_count, values_outcome}
+use Rattle.jq_filters.specs.Outcomes.{Job, on_each, printed_of, ending_report, is_failure, halt_status, runs_printed, runs_reported, any_failure, last_by, last_item, last_output, nothing, falsy, truthy, end_status, first_halt, up_to_halt, unless_halted}
+use Rattle.jq_filters.specs.Outcomes as outcomes
+use Rattle.jq_filters.specs.Pieces.{each_fold, last_in, last_of, no_piece, piece_of, status_in}
+use Rattle.jq_filters.specs.Present.{run_count, values_outcome}
 use Rattle.jq_stream.specs.Streams.{Outputs}
-use Rattle.jq_stream.specs.Unhalted.{NeverHalts}
+use Rattle.jq_filters.specs.Unhalted.{NeverHalts}
 use Rattle.jq_stream.specs.private.Answering.{HasEmptyBuffers, IsAnswered, IsFresh, last_after}
 use Rattle.jq_stream.specs.declared.answers.OutputBuffers.{OutputBuffers}
 use Rattle.jq_stream.proofs.Answering.{buffers_written, whole_written}
-use Rattle.jq_stream.proofs.Halting.{none_halts, nothing_more, one_halt}
+use Rattle.jq_filters.proofs.shared.Halting.{none_halts, nothing_more, one_halt}
 use Rattle.jq_stream.proofs.LastOutputs.{last_from_none}
 
 -- ---- the last output

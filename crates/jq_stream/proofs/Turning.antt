@@ -9,13 +9,13 @@ use Rattle.jv_text.specs.declared.printing.Style.{Style}
 use Rattle.jq_natives.specs.Answers.{is_true}
 use Rattle.jq_meaning.specs.Runs.{Run, Item, value_in, before, ended}
 use Rattle.jq_meaning.specs.Runs as runs
-use Rattle.jq_stream.specs.Outcomes.{Last, last_by, runs_printed, runs_reported, ending_report, is_failure, first_halt, halt_status}
+use Rattle.jq_filters.specs.Outcomes.{Last, last_by, runs_printed, runs_reported, ending_report, is_failure, first_halt, halt_status}
 use Rattle.jq_stream.specs.Streams.{Outputs}
 use Rattle.jq_stream.specs.private.Sending.{IsSent, IsSentFirst}
-use Rattle.jq_stream.specs.Pieces.{last_of}
+use Rattle.jq_filters.specs.Pieces.{last_of}
 use Rattle.jq_stream.specs.private.Answering.{IsAnswered, IsAnsweredFirst, IsPrinted, IsPrintedFirst, last_after_items}
 use Rattle.jq_stream.specs.declared.answers.OutputBuffers.{OutputBuffers}
-use Rattle.jq_stream.proofs.Halting.{one_halt}
+use Rattle.jq_filters.proofs.shared.Halting.{one_halt}
 use Rattle.jq_stream.proofs.Sending.{sent_none, sent_added, sent_more, sent_then_first, sent_longer, first_of_sent, first_sent}
 
 abbrev pub items_printed : Style → List Item → List ℕ

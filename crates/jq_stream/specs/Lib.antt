@@ -1,16 +1,5 @@
-pub mod Programs
-pub mod Outcomes
 pub mod Streams
 pub mod Texts
 pub mod Stopped
 pub mod Failures
-pub mod Runner
-pub mod Running
-pub mod Present
-pub mod Pieces
-pub mod Accepted
-pub mod Compiled
-pub mod Filters
-pub mod Unhalted
-pub mod laws
 pub mod private

@@ -6,8 +6,8 @@ use Rattle.jv_text.specs.declared.faults.Fault.{Fault}
 use Rattle.jq_devices.specs.Writing.{AppendsFirst, AppendsMore}
 use Rattle.jq_devices.specs.declared.faults.StreamFault.{StreamFault}
 use Rattle.jq_devices.specs.declared.faults.StreamFault.TheVariants.{Read, Write, NoMemory}
-use Rattle.jq_stream.specs.Outcomes.{Outcome, Mode, on_each, Job, runs_in, first_halt, runs_printed, runs_reported, stream_outcome}
-use Rattle.jq_stream.specs.Present.{present}
+use Rattle.jq_filters.specs.Outcomes.{Outcome, Mode, on_each, Job, runs_in, first_halt, runs_printed, runs_reported, stream_outcome}
+use Rattle.jq_filters.specs.Present.{present}
 use Rattle.jq_devices.specs.Reading.{IsWhole}
 use Rattle.jq_stream.specs.Streams.{Outputs, Streams, Writes}
 

@@ -5,7 +5,7 @@ use Rattle.jv_text.specs.Stream.{stream}
 use Rattle.jq_devices.specs.Reading.{IsWhole}
 use Rattle.jq_devices.specs.Watched.{device_of}
 use Rattle.jq_devices.specs.declared.watched.Watched.{Watched}
-use Rattle.jq_stream.specs.Outcomes.{Outcome, Mode, Job, stream_outcome}
+use Rattle.jq_filters.specs.Outcomes.{Outcome, Mode, Job, stream_outcome}
 
 -- the bytes on standard output and on standard error, if the writers' bytes are known
 pub record Outputs : Type 0 where

@@ -14,20 +14,19 @@ ghost use Rattle.jq_starts.specs.Starts.{HasStarted};
 ghost use Rattle.jq_devices.specs.Watched.{device_of};
 ghost use Rattle.jq_devices.specs.Writing.{AppendsFirst};
 ghost use Rattle.jq_devices.specs.declared.faults.StreamFault.TheVariants.{Read as ReadFault, Write as WriteFault};
-ghost use Rattle.jq_stream.specs.Outcomes.{runs_printed, runs_reported, error_line, error_prefix, end_status, ending_report, first_halt, halt_status, is_failure, last_by, stop_report};
-ghost use Rattle.jq_stream.specs.Pieces.{last_of};
-ghost use Rattle.jq_stream.specs.Runner.{job_of};
+ghost use Rattle.jq_filters.specs.Outcomes.{runs_printed, runs_reported, error_line, error_prefix, end_status, ending_report, first_halt, halt_status, is_failure, last_by, stop_report};
+ghost use Rattle.jq_filters.specs.Pieces.{last_of};
+ghost use Rattle.jq_filters.specs.Runner.{job_of};
 ghost use Rattle.jq_stream.specs.private.Outputs.{outputs_of};
 ghost use Rattle.jq_stream.specs.Failures.{output_failures};
 ghost use Rattle.jq_stream.specs.private.Blaming.{IsWriteBlamed, NoneFell};
 ghost use Rattle.jq_stream.specs.private.Cutting.{IsCutting, IsReadied};
 
 use crate::reports::note_input;
-use crate::runner::{Runner, no_inputs};
-use crate::settings::Settings;
 use jq_backtracking::Ending;
 use jq_devices::{StreamFault, Watched, Write, write};
 use jq_engine::{Engine, Turn};
+use jq_filters::{Runner, Settings, no_inputs};
 use jq_natives::truth;
 use jq_pages::Last;
 use jq_starts::Starts;
@@ -81,7 +80,8 @@ pub(crate) struct OutputBuffers {
 }
 
 impl OutputBuffers {
-    ghost use Rattle.jq_stream.specs.private.Answering.{IsAnswered, IsAnsweredFirst, MayBeMade, IsPrinted, IsPrintedFirst, HasEmptyBuffers, IsFresh, runs_on};
+    ghost use Rattle.jq_filters.specs.Made.{MayBeMade};
+    ghost use Rattle.jq_stream.specs.private.Answering.{IsAnswered, IsAnsweredFirst, IsPrinted, IsPrintedFirst, HasEmptyBuffers, IsFresh, runs_on};
 
     /// No run was made.
     pub(crate) fn new(alloc: Global) -> OutputBuffers

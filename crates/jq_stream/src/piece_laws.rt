@@ -4,10 +4,10 @@ ghost use Rattle.jv_meaning.specs.Value.{Value};
 ghost use Rattle.jq_pages.specs.Contents.{folded_in};
 ghost use Rattle.jq_pages.specs.Folds.{all, errors, output};
 ghost use Rattle.jq_pages.specs.Totals.{totals};
-ghost use Rattle.jq_stream.specs.Outcomes.{Job, on_each};
-ghost use Rattle.jq_stream.specs.Pieces.{each_fold, status_in};
-ghost use Rattle.jq_stream.specs.Present.{run_count, values_outcome};
-ghost use Rattle.jq_stream.specs.Unhalted.{NeverHalts};
+ghost use Rattle.jq_filters.specs.Outcomes.{Job, on_each};
+ghost use Rattle.jq_filters.specs.Pieces.{each_fold, status_in};
+ghost use Rattle.jq_filters.specs.Present.{run_count, values_outcome};
+ghost use Rattle.jq_filters.specs.Unhalted.{NeverHalts};
 
 /// If no run halts, the outcome of the runs on each input is that of their pieces, one after the other: the output and the errors are
 /// theirs joined, and the status depends on their totals. Each input has one run.

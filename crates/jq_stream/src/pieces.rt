@@ -5,13 +5,13 @@ ghost use Rattle.jq_engine.specs.Engine.{IsRest};
 ghost use Rattle.jq_meaning.specs.Runs.{Run, Item, none};
 ghost use Rattle.jq_pages.specs.Pieces.{piece_view};
 ghost use Rattle.jq_starts.specs.Starts.{HasStarted};
-ghost use Rattle.jq_stream.specs.Pieces.{piece_of};
-ghost use Rattle.jq_stream.specs.Running.{run_on};
+ghost use Rattle.jq_filters.specs.Pieces.{piece_of};
+ghost use Rattle.jq_filters.specs.Running.{run_on};
 
 use crate::answers::OutputBuffers;
-use crate::runner::{Runner, no_inputs};
 use jq_devices::{StreamFault, Watched};
 use jq_engine::Engine;
+use jq_filters::{Runner, no_inputs};
 use jq_pages::Piece;
 use jq_starts::Starts;
 use jv_data::{NoMemory, Val};

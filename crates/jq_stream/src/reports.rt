@@ -6,7 +6,7 @@ ghost use Rattle.jv_text.specs.FaultWords.{fault_text};
 ghost use Rattle.jq_devices.specs.Watched.{HasFailed, device_of, failures_of};
 ghost use Rattle.jq_devices.specs.Writing.{AppendsFirst};
 ghost use Rattle.jq_devices.specs.declared.faults.StreamFault.TheVariants.{Read as ReadFault, Write as WriteFault, NoMemory as MemoryFault};
-ghost use Rattle.jq_stream.specs.Outcomes.{text_line};
+ghost use Rattle.jq_filters.specs.Outcomes.{text_line};
 
 use jq_devices::{StreamFault, Watched, Write, write};
 use jv_data::NoMemory;

@@ -2,18 +2,17 @@
 ghost use Rattle.std.specs.Prelude.{◌≡◌, IfOk, OnErr, OnOk, map};
 ghost use Rattle.jv_data.specs.View.{view};
 ghost use Rattle.jq_starts.specs.Starts.{HasStarted, HasStartedAtMost};
-ghost use Rattle.jq_stream.specs.Outcomes.{first_halt, on_each, up_to_halt};
-ghost use Rattle.jq_stream.specs.Present.{values_outcome, run_count};
-ghost use Rattle.jq_stream.specs.Runner.{job_of, mode_of};
+ghost use Rattle.jq_filters.specs.Outcomes.{first_halt, on_each, up_to_halt};
+ghost use Rattle.jq_filters.specs.Present.{values_outcome, run_count};
+ghost use Rattle.jq_filters.specs.Runner.{job_of, mode_of};
 ghost use Rattle.jq_stream.specs.private.Outputs.{outputs_of};
 ghost use Rattle.jq_stream.specs.private.Answering.{IsAnswered, runs_on};
 ghost use Rattle.jq_stream.specs.private.Valued.{IsValuesRun, runs_by_mode};
 
 use crate::answers::OutputBuffers;
-use crate::runner::{Runner, no_inputs};
 use crate::running::{run_on_array, run_with};
-use crate::settings::{Mode, Settings};
 use jq_devices::{StreamFault, Watched, Write};
+use jq_filters::{Mode, Runner, Settings, no_inputs};
 use jq_starts::Starts;
 use jq_starts::laws::starts_add_up;
 use jq_state::inputs::Inputs;

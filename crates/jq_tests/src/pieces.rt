@@ -2,8 +2,9 @@
 use crate::fakes::{Bytes, Kept};
 use crate::starting::compile_under;
 use jq_devices::{Read, StreamFault, Watched};
+use jq_filters::Filter;
 use jq_starts::Starts;
-use jq_stream::{Filter, run_stream};
+use jq_stream::run_stream;
 use std::alloc::Global;
 use std::process::Abort;
 use std::test::Fail;

@@ -1,9 +1,9 @@
 // Moves and other filters that are refused memory, and are made again (tests/growth.py refuses each allocation in turn).
 use crate::memory::{check_session, mark};
 use crate::starting::{compile_under, numbers, started};
+use jq_filters::Filter;
 use jq_session::{Refusal, Session};
 use jq_starts::Starts;
-use jq_stream::Filter;
 use std::process::Abort;
 use std::test::Fail;
 

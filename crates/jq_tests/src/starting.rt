@@ -1,7 +1,7 @@
 // How the tests compile a filter and start a session.
+use jq_filters::Filter;
 use jq_session::{NotStarted, Session};
 use jq_starts::Starts;
-use jq_stream::Filter;
 use jq_syntax::Options;
 use jv_data::Val;
 use jv_text::Style;

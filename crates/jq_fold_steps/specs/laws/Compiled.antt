@@ -5,10 +5,10 @@ use Rattle.jq_tree.specs.Filter.{fold}
 use Rattle.jq_inputs.specs.Plans.{view_of}
 use Rattle.jq_pages.specs.Contents.{folded_in}
 use Rattle.jq_state.specs.Listed.{items_in}
-use Rattle.jq_stream.specs.Filters.{IsFilterOf, filter_job}
-use Rattle.jq_stream.specs.Outcomes.{on_null}
-use Rattle.jq_stream.specs.Present.{values_outcome}
-use Rattle.jq_stream.specs.declared.filters.Filter.{Filter}
+use Rattle.jq_filters.specs.Filters.{IsFilterOf, filter_job}
+use Rattle.jq_filters.specs.Outcomes.{on_null}
+use Rattle.jq_filters.specs.Present.{values_outcome}
+use Rattle.jq_filters.specs.declared.filters.Filter.{Filter}
 use Rattle.jq_syntax.specs.Chosen.{Chosen}
 use Rattle.jq_fold_steps.specs.Filters.{filter_fold, compiled_fold}
 use Rattle.jq_fold_steps.specs.laws.Outcomes.{IsFoldable, IsOutcome}

@@ -10,11 +10,11 @@ use Rattle.jq_folds.specs.laws.Reading.{LeavesInputsAlone}
 use Rattle.jq_pages.specs.Folds.{Folded, all, output, errors}
 use Rattle.jq_pages.specs.Contents.{folded_in}
 use Rattle.jq_pages.specs.Totals.{totals}
-use Rattle.jq_stream.specs.Outcomes.{Outcome, on_null}
-use Rattle.jq_stream.specs.Pieces.{status_in}
-use Rattle.jq_stream.specs.Present.{values_outcome}
-use Rattle.jq_stream.specs.Runner.{job_in}
-use Rattle.jq_stream.specs.declared.settings.Settings.{Settings}
+use Rattle.jq_filters.specs.Outcomes.{Outcome, on_null}
+use Rattle.jq_filters.specs.Pieces.{status_in}
+use Rattle.jq_filters.specs.Present.{values_outcome}
+use Rattle.jq_filters.specs.Runner.{job_in}
+use Rattle.jq_filters.specs.declared.settings.Settings.{Settings}
 use Rattle.jq_fold_steps.specs.Bindings.{env_in}
 use Rattle.jq_fold_steps.specs.Folded.{fold_of}
 

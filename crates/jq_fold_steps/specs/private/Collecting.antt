@@ -8,9 +8,9 @@ use Rattle.jq_folds.specs.Pieces.{FoldState, going, stopped, Stepped}
 use Rattle.jq_pages.specs.Pieces.{PieceView, piece_view}
 use Rattle.jq_pages.specs.declared.pieces.Piece.{Piece}
 use Rattle.jq_pages.specs.declared.pieces.Last.{Last}
-use Rattle.jq_stream.specs.Outcomes.{ending_report, is_failure, halt_status}
+use Rattle.jq_filters.specs.Outcomes.{ending_report, is_failure, halt_status}
 use Rattle.std.specs.Option.{option_or}
-use Rattle.jq_stream.specs.Pieces.{piece_of}
+use Rattle.jq_filters.specs.Pieces.{piece_of}
 use Rattle.jq_fold_steps.specs.States.{state_in}
 use Rattle.jq_fold_steps.specs.declared.fold_steps.FoldState as code
 

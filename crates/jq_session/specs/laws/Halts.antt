@@ -3,8 +3,8 @@ use Rattle.std.specs.Prelude.{List}
 use Rattle.jv_meaning.specs.Value.{Value}
 use Rattle.jq_fold_steps.specs.laws.Outcomes.{IsOutcome}
 use Rattle.jq_pages.specs.Contents.{folded_in}
-use Rattle.jq_stream.specs.Outcomes.{Job, on_each}
-use Rattle.jq_stream.specs.Present.{values_outcome}
+use Rattle.jq_filters.specs.Outcomes.{Job, on_each}
+use Rattle.jq_filters.specs.Present.{values_outcome}
 use Rattle.jq_session.specs.Halting.{halting_fold}
 
 -- The pieces of these runs, one after the other, are the outcome of runs from scratch on each input.

@@ -1,8 +1,8 @@
 -- A session after any list of calls.
 use Rattle.std.specs.Prelude.{◌≡◌, ℕ, ◌+◌, List, [], ◌∷◌, Option, Some, None, Result, Ok, Err}
 use Rattle.jv_meaning.specs.Value.{Value}
-use Rattle.jq_stream.specs.Present.{values_outcome}
-use Rattle.jq_stream.specs.declared.filters.Filter.{Filter}
+use Rattle.jq_filters.specs.Present.{values_outcome}
+use Rattle.jq_filters.specs.declared.filters.Filter.{Filter}
 use Rattle.jq_pages.specs.Edits.{Edit, Reason, edited}
 use Rattle.jq_pages.specs.Folds.{Rises}
 use Rattle.jq_pages.specs.Moves.{moved}

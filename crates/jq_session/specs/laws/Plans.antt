@@ -1,7 +1,7 @@
 -- The plan of a session.
 use Rattle.std.specs.Prelude.{ℕ, List}
-use Rattle.jq_stream.specs.Filters.{IsFilterOf, filter_mode}
-use Rattle.jq_stream.specs.declared.filters.Filter.{Filter}
+use Rattle.jq_filters.specs.Filters.{IsFilterOf, filter_mode}
+use Rattle.jq_filters.specs.declared.filters.Filter.{Filter}
 use Rattle.jq_syntax.specs.Chosen.{Chosen}
 use Rattle.jq_session.specs.States.{IsPlanOf, filter_plan}
 

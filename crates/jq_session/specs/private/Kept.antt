@@ -9,7 +9,7 @@ use Rattle.jq_pages.specs.Folds.{Fold}
 use Rattle.jq_pages.specs.Moves.{IsRerunTwice}
 use Rattle.jq_pages.specs.Splices.{came}
 use Rattle.jq_pages.specs.declared.changes.Change.{Change}
-use Rattle.jq_stream.specs.declared.filters.Filter.{Filter}
+use Rattle.jq_filters.specs.declared.filters.Filter.{Filter}
 use Rattle.jq_session.specs.Splices.{IsPut, PutsPieces}
 use Rattle.jq_session.specs.Starts.{AllowedMove, AllowedStarts, IsFirstRun}
 use Rattle.jq_session.specs.States.{filter_plan, outcome, state_in}

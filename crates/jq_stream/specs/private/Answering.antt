@@ -1,12 +1,12 @@
 -- What was answered so far for the values of a stream.
-use Rattle.std.specs.Prelude.{◌≡◌, ℕ, List, [], ◌∷◌, ◌||◌, false, Some, map}
+use Rattle.std.specs.Prelude.{◌≡◌, ℕ, List, [], ◌∷◌, ◌||◌, false, map}
 use Rattle.jv_meaning.specs.Value.{Value}
 use Rattle.jv_text.specs.declared.printing.Style.{Style}
 use Rattle.jq_natives.specs.Answers.{is_true}
 use Rattle.jq_meaning.specs.Runs.{Run, Item, none, value_in}
-use Rattle.jq_stream.specs.Outcomes.{Job, last_by, runs_printed, runs_reported, any_failure, up_to_halt, first_halt}
-use Rattle.jq_stream.specs.Outcomes as outcomes
-use Rattle.jq_stream.specs.Pieces.{last_of}
+use Rattle.jq_filters.specs.Outcomes.{Job, last_by, runs_printed, runs_reported, any_failure}
+use Rattle.jq_filters.specs.Outcomes as outcomes
+use Rattle.jq_filters.specs.Pieces.{last_of}
 use Rattle.jq_stream.specs.Streams.{Outputs}
 use Rattle.jq_stream.specs.private.Sending.{IsSent, IsSentFirst}
 use Rattle.jq_stream.specs.declared.answers.OutputBuffers.{OutputBuffers}
@@ -24,15 +24,6 @@ last_after before (r ∷ rs) = last_after (last_after_items before r.items) rs
 -- the runs on these values, where `inputs` returns nothing
 abbrev pub runs_on : Job → List Value → List (Run Item)
 runs_on job values = map (job.run none) values
-
--- No run but the last one halts.
-abbrev pub MayBeMade : List (Run Item) → Type 0
-MayBeMade runs = up_to_halt runs ≡ runs
-
--- The last run halts with this status, and no other one does.
-pub record EndsInHalt (status : ℕ) (runs : List (Run Item)) : Type 0 where
-  pub made : MayBeMade runs
-  pub halts : first_halt runs ≡ Some status
 
 -- These runs were made, and what they write is in the buffers or was written.
 pub record IsAnswered (style : Style) (runs : List (Run Item)) (old new : OutputBuffers) (before after : Outputs) : Type 0 where

@@ -1,7 +1,7 @@
 use Rattle.std.proofs.Common.{refl}
 use Rattle.std.specs.Str.{chars}
 use Rattle.jq_devices.specs.Watched.{device_of}
-use Rattle.jq_stream.specs.Filters.{filter_job, filter_mode}
+use Rattle.jq_filters.specs.Filters.{filter_job, filter_mode}
 use Rattle.jq_stream.specs.Streams.{streams_of}
 use Rattle.jq_syntax.specs.Chosen.{chosen}
 use Rattle.jv_meaning.proofs.shared.Results.{if_err_map, if_ok_map}

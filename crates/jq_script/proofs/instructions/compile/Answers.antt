@@ -1,6 +1,6 @@
 use Rattle.std.proofs.Common.{IfErr, IfOk, subst}
 use Rattle.std.specs.Str.{chars}
-use Rattle.jq_stream.specs.Filters.{IsFilterOf}
+use Rattle.jq_filters.specs.Filters.{IsFilterOf}
 use Rattle.jq_syntax.specs.Chosen.{setting}
 use Rattle.jq_syntax.specs.Compiled.{IsRefusal}
 use Rattle.jq_script.proofs.instructions.compile.Goals as goal

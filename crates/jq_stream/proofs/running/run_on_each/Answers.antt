@@ -3,8 +3,8 @@ use Rattle.jv_meaning.proofs.shared.Results.{error_returned, if_other}
 use Rattle.jq_devices.proofs.shared.Failures.{failed_after}
 use Rattle.jq_devices.proofs.shared.Writing.{first_result}
 use Rattle.jq_devices.specs.declared.faults.StreamFault.TheVariants.{NoMemory}
-use Rattle.jq_stream.specs.Outcomes.{on_each}
-use Rattle.jq_stream.specs.Runner.{job_of}
+use Rattle.jq_filters.specs.Outcomes.{on_each}
+use Rattle.jq_filters.specs.Runner.{job_of}
 use Rattle.jq_stream.specs.Streams.{streams_of}
 use Rattle.jq_stream.specs.Failures.{output_failures}
 use Rattle.jq_stream.proofs.Blaming.{after_none, report_failed, write_failed}

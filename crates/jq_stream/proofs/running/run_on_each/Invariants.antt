@@ -2,7 +2,7 @@ use Rattle.std.proofs.Common.{◌≡◌, ◌≤◌, ◌*◌, ◌-◌, ◌^◌, �
 use Rattle.jv_meaning.specs.Value.{Value}
 use Rattle.jv_text.specs.Cutting.{AllGiven, is_finished, fed_count}
 use Rattle.jq_devices.specs.Watched.{failures_of, reads_left}
-use Rattle.jq_stream.specs.Runner.{job_of}
+use Rattle.jq_filters.specs.Runner.{job_of}
 use Rattle.jq_stream.specs.Failures.{output_failures}
 use Rattle.jq_stream.specs.Streams.{streams_of}
 use Rattle.jq_stream.proofs.Going.{Going}

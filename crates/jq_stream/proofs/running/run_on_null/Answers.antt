@@ -3,8 +3,8 @@ use Rattle.jv_data.specs.View.{view}
 use Rattle.jv_meaning.proofs.shared.Results.{error_returned, if_err_map, if_other}
 use Rattle.jq_devices.specs.Watched.{device_of}
 use Rattle.jq_devices.specs.declared.faults.StreamFault.TheVariants.{NoMemory}
-use Rattle.jq_stream.specs.Outcomes.{on_null}
-use Rattle.jq_stream.specs.Runner.{job_of}
+use Rattle.jq_filters.specs.Outcomes.{on_null}
+use Rattle.jq_filters.specs.Runner.{job_of}
 use Rattle.jq_stream.specs.Streams.{streams_of}
 use Rattle.jq_stream.proofs.Blaming.{write_failed}
 use Rattle.jq_stream.proofs.Going.{not_read, stopped_by, unbegun}

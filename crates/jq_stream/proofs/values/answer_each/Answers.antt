@@ -1,7 +1,7 @@
 use Rattle.std.proofs.Common.{◌≡◌, ◌∙◌, ◌<◌, ◌≤◌, ◌+◌, length, arith, refl, sym, subst}
 use Rattle.jv_meaning.proofs.shared.Results.{on_err}
 use Rattle.jq_starts.specs.Starts.{HasStarted}
-use Rattle.jq_stream.specs.Runner.{job_of}
+use Rattle.jq_filters.specs.Runner.{job_of}
 use Rattle.jq_stream.proofs.Answering.{answered_none}
 use Rattle.jq_stream.proofs.Copying.{all_made, answered_as, answered_next, halted_at, halted_next, next_run_made, runs_at_least, unhalted_next}
 use Rattle.jq_stream.proofs.values.answer_each.Goals as goal

@@ -2,8 +2,8 @@ use Rattle.std.proofs.Common.{◌≡◌, None, map, take}
 use Rattle.jv_data.specs.View.{view}
 use Rattle.jq_starts.specs.Starts.{HasStarted}
 use Rattle.jq_devices.specs.Watched.{device_of}
-use Rattle.jq_stream.specs.Outcomes.{first_halt}
-use Rattle.jq_stream.specs.Runner.{job_of}
+use Rattle.jq_filters.specs.Outcomes.{first_halt}
+use Rattle.jq_filters.specs.Runner.{job_of}
 use Rattle.jq_stream.specs.Streams.{outputs}
 use Rattle.jq_stream.specs.private.Answering.{IsAnswered, runs_on}
 use Rattle.jq_stream.proofs.values.answer_each.Given as goal

@@ -1,4 +1,4 @@
-use Rattle.jq_stream.specs.Runner.{job_of}
+use Rattle.jq_filters.specs.Runner.{job_of}
 use Rattle.jq_stream.proofs.Copying.{values_ran}
 use Rattle.jq_stream.proofs.values.write_each.Goals as goal
 

@@ -1,7 +1,7 @@
 use Rattle.std.proofs.Common.{◌≡◌, ◌-◌, ◌∙◌, ap, refl, subst, sym, arith, rules}
 use Rattle.std.proofs.lemmas.Grind.{common_steps}
 use Rattle.jq_pages.specs.Contents.{folded_of}
-use Rattle.jq_stream.specs.Pieces.{status_in}
+use Rattle.jq_filters.specs.Pieces.{status_in}
 use Rattle.jq_session.specs.Sessions.{IsMoveRefusal}
 use Rattle.jq_session.specs.States.{after_move, state_in}
 use Rattle.jq_session.specs.declared.splices.Follow.{Follow}

@@ -1,7 +1,7 @@
 use Rattle.std.proofs.Common.{◌≡◌, ◌∙◌, ap, arith, rules}
 use Rattle.std.proofs.lemmas.Grind.{common_steps}
 use Rattle.jq_pages.specs.Contents.{folded_of}
-use Rattle.jq_stream.specs.Pieces.{status_in}
+use Rattle.jq_filters.specs.Pieces.{status_in}
 use Rattle.jq_session.proofs.OnPages.{status_paged}
 use Rattle.jq_session.proofs.paged.PagedSession.status.Goals as goal
 

@@ -1,8 +1,8 @@
 use Rattle.std.proofs.Common.{◌≡◌, ◌∙◌, subst}
 use Rattle.jv_data.specs.View.{view}
 use Rattle.jq_pages.specs.Pieces.{piece_view}
-use Rattle.jq_stream.specs.Filters.{filter_job}
-use Rattle.jq_stream.specs.declared.filters.Filter.{Filter}
+use Rattle.jq_filters.specs.Filters.{filter_job}
+use Rattle.jq_filters.specs.declared.filters.Filter.{Filter}
 use Rattle.jq_session.specs.Halting.{halting_step}
 use Rattle.jq_session.proofs.UpToHalt.{halts_after_run}
 use Rattle.jq_session.proofs.until_halt.UntilHaltSteps.step.Goals as goal

@@ -4,7 +4,7 @@ use Rattle.jv_data.specs.declared.values.Val.{Val}
 use Rattle.jq_pages.specs.Edits.{Edit}
 use Rattle.jq_pages.specs.Folds.{Rises}
 use Rattle.jq_starts.specs.Starts.{starts_in}
-use Rattle.jq_stream.specs.Present.{run_count}
+use Rattle.jq_filters.specs.Present.{run_count}
 use Rattle.jq_session.specs.Sessions.{whole_state}
 use Rattle.jq_session.specs.Splices.{Follows}
 use Rattle.jq_session.specs.States.{after_move, over}

@@ -2,9 +2,9 @@ use Rattle.std.proofs.Common.{rules, [], ◌∷◌, ◌++◌, refl, sym, subst, 
 use Rattle.jv_data.specs.View.{view}
 use Rattle.jv_text.specs.Cutting.{HasGiven}
 use Rattle.jv_meaning.proofs.shared.Results.{error_returned, on_err}
-use Rattle.jq_stream.specs.Runner.{job_of}
+use Rattle.jq_filters.specs.Runner.{job_of}
 use Rattle.jq_stream.proofs.Answering.{answered_none, first_of_answered, halted_more, one_halts, one_more_made, unhalted_more, values_more, values_then_first}
-use Rattle.jq_stream.proofs.Halting.{none_halts}
+use Rattle.jq_filters.proofs.shared.Halting.{none_halts}
 use Rattle.jq_stream.proofs.Blaming.{after_none}
 use Rattle.jq_stream.proofs.Giving.{fewer_left, met_fault}
 use Rattle.jq_stream.proofs.answers.OutputBuffers.answer_all.Goals as goal

@@ -2,8 +2,8 @@ use Rattle.std.proofs.Common.{◌≡◌, ℕ, List, ◌++◌, None, length}
 use Rattle.jv_meaning.specs.Value.{Value}
 use Rattle.jv_text.specs.Cutting.{HasGiven, is_finished, fed_count}
 use Rattle.jq_devices.specs.Watched.{device_of}
-use Rattle.jq_stream.specs.Outcomes.{first_halt}
-use Rattle.jq_stream.specs.Runner.{job_of}
+use Rattle.jq_filters.specs.Outcomes.{first_halt}
+use Rattle.jq_filters.specs.Runner.{job_of}
 use Rattle.jq_stream.specs.Streams.{outputs}
 use Rattle.jq_stream.specs.private.Cutting.{IsCutting}
 use Rattle.jq_stream.specs.Failures.{output_failures}

@@ -1,0 +1,12 @@
+pub mod Programs
+pub mod Outcomes
+pub mod Made
+pub mod Runner
+pub mod Running
+pub mod Present
+pub mod Pieces
+pub mod Accepted
+pub mod Compiled
+pub mod Filters
+pub mod Unhalted
+pub mod laws

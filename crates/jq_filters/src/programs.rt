@@ -1,0 +1,54 @@
+// Programs in the form that the engine takes.
+ghost use Rattle.std.specs.Prelude.{◌≡◌, ◌++◌, IfOk, OnOk, map, reverse};
+ghost use Rattle.jq_syntax.specs.Chosen.{variables_of};
+ghost use Rattle.jq_state.specs.Listed.{items_in};
+ghost use Rattle.jq_state.specs.Nodes.{program_binding};
+ghost use Rattle.jq_filters.specs.Programs.{bindings_of, function_binding, value_binding};
+
+use jq_ast::{Function, Tree};
+use jq_state::environments::ProgramBinding;
+use jq_state::programs::ProgramBindings;
+use jv_data::{NoMemory, Val};
+use std::alloc::Global;
+
+/// The bindings around a filter, from the outermost to the innermost: the variables, of which the first comes last, and then
+/// the functions in their order.
+pub fn bindings_of(
+    alloc: Global,
+    variables: Vec<(String, Val)>,
+    functions: Vec<Function<Tree>>,
+) -> Result<ProgramBindings, NoMemory>
+    ensures { IfOk result (λ bs. map program_binding (items_in bs) ≡ bindings_of (variables_of variables.items) functions.items) }
+{
+    let mut bindings = Vec::with_capacity(alloc, variables.len())?;
+    add_variables(&mut bindings, variables)?;
+    add_functions(&mut bindings, functions)?;
+    ProgramBindings::new(alloc, bindings)
+}
+
+fn add_variables(
+    bindings: &mut Vec<ProgramBinding>,
+    variables: Vec<(String, Val)>,
+) -> Result<(), NoMemory>
+    ensures { OnOk result (map program_binding bindings.new.items ≡ map program_binding bindings.old.items ++ reverse (map value_binding (variables_of variables.items))) }
+{
+    let mut left = variables;
+    for _ in 0..left.len() {
+        if let Some((name, value)) = left.pop() {
+            bindings.push(ProgramBinding::Value(name, value))?;
+        }
+    }
+    Ok(())
+}
+
+fn add_functions(
+    bindings: &mut Vec<ProgramBinding>,
+    functions: Vec<Function<Tree>>,
+) -> Result<(), NoMemory>
+    ensures { OnOk result (map program_binding bindings.new.items ≡ map program_binding bindings.old.items ++ map function_binding functions.items) }
+{
+    for function in functions {
+        bindings.push(ProgramBinding::Function(function))?;
+    }
+    Ok(())
+}
