@@ -1,6 +1,5 @@
 pub mod Programs
 pub mod Outcomes
-pub mod Made
 pub mod Runner
 pub mod Running
 pub mod Present
@@ -10,3 +9,4 @@ pub mod Compiled
 pub mod Filters
 pub mod Unhalted
 pub mod laws
+pub mod private

@@ -16,7 +16,7 @@ use Rattle.jq_devices.specs.Writing.{AppendsFirst}
 use Rattle.jq_filters.specs.Outcomes.{Job, Last, runs_printed, runs_reported, any_failure, last_output, first_halt, end_status}
 use Rattle.jq_stream.specs.Streams.{Outputs}
 use Rattle.jq_filters.specs.Pieces.{last_of}
-use Rattle.jq_filters.specs.Made.{EndsInHalt, MayBeMade}
+use Rattle.jq_filters.specs.private.Made.{EndsInHalt, MayBeMade}
 use Rattle.jq_stream.specs.private.Answering.{IsAnswered, IsAnsweredFirst, IsPrinted, IsPrintedFirst, HasEmptyBuffers, IsFresh, last_after, last_after_items, runs_on}
 use Rattle.jq_stream.specs.private.Cutting.{IsReached, IsReadied}
 use Rattle.jq_stream.specs.private.Sending.{IsSent, IsSentFirst}

@@ -12,7 +12,7 @@ use Rattle.jq_filters.specs.Outcomes.{Job, end_status, first_halt, on_each, runs
 use Rattle.jq_filters.specs.Present.{run_count}
 use Rattle.jq_stream.specs.Streams.{Outputs}
 use Rattle.jq_filters.specs.Pieces.{last_of}
-use Rattle.jq_filters.specs.Made.{EndsInHalt}
+use Rattle.jq_filters.specs.private.Made.{EndsInHalt}
 use Rattle.jq_stream.specs.private.Answering.{HasEmptyBuffers, IsAnswered, IsFresh, runs_on}
 use Rattle.jq_stream.specs.private.Valued.{IsValuesRun}
 use Rattle.jq_stream.specs.declared.answers.OutputBuffers.{OutputBuffers}

@@ -18,7 +18,7 @@ use Rattle.jq_filters.specs.Present.{present}
 use Rattle.jq_stream.specs.Streams.{Outputs, Streams, Writes, IsStreamRun, streams}
 use Rattle.jq_stream.specs.Stopped.{WritesFirst, IsReadStopped, IsWriteStopped, IsStreamStopped, IsOnePass}
 use Rattle.jq_filters.specs.Pieces.{last_of}
-use Rattle.jq_filters.specs.Made.{EndsInHalt, MayBeMade}
+use Rattle.jq_filters.specs.private.Made.{EndsInHalt, MayBeMade}
 use Rattle.jq_stream.specs.private.Answering.{IsAnswered, HasEmptyBuffers, IsFresh, runs_on}
 use Rattle.jq_stream.specs.declared.answers.OutputBuffers.{OutputBuffers}
 use Rattle.jq_stream.proofs.Answering.{FirstWritten, answered_none, halted_more, made_more, status_of_runs, unhalted_more, values_more, whole_written, runs_both, printed_both, reported_both}

@@ -80,7 +80,7 @@ pub(crate) struct OutputBuffers {
 }
 
 impl OutputBuffers {
-    ghost use Rattle.jq_filters.specs.Made.{MayBeMade};
+    ghost use Rattle.jq_filters.specs.private.Made.{MayBeMade};
     ghost use Rattle.jq_stream.specs.private.Answering.{IsAnswered, IsAnsweredFirst, IsPrinted, IsPrintedFirst, HasEmptyBuffers, IsFresh, runs_on};
 
     /// No run was made.

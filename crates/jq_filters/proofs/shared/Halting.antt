@@ -5,7 +5,7 @@ use Rattle.std.specs.Prelude.{unwrap_or}
 use Rattle.jv_text.specs.declared.printing.Style.{Style}
 use Rattle.jq_meaning.specs.Runs.{Run, Item}
 use Rattle.jq_filters.specs.Outcomes.{Outcome, runs_printed, runs_reported, any_failure, last_output, halt_status, unless_halted, up_to_halt, first_halt, end_status, runs_outcome}
-use Rattle.jq_filters.specs.Made.{MayBeMade, EndsInHalt}
+use Rattle.jq_filters.specs.private.Made.{MayBeMade, EndsInHalt}
 
 -- ---- a single run
 

@@ -6,7 +6,7 @@ use Rattle.jv_text.specs.declared.cutting.Cutter.{Cutter}
 use Rattle.jv_text.specs.declared.faults.Fault.{Fault}
 use Rattle.jq_meaning.specs.Runs.{Run, Item}
 use Rattle.jq_filters.specs.Outcomes.{first_halt}
-use Rattle.jq_filters.specs.Made.{EndsInHalt}
+use Rattle.jq_filters.specs.private.Made.{EndsInHalt}
 use Rattle.jq_stream.specs.declared.answers.Reached.{Reached}
 use Rattle.jq_stream.specs.declared.answers.Reached.TheVariants as reached
 

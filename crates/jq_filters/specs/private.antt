@@ -1,0 +1,2 @@
+-- What only contracts of private functions cite, those of `jq_stream` among them.
+pub mod Made
