@@ -1,8 +1,7 @@
 pub mod Blaming
 pub mod Names
+pub mod Keeping
 pub mod Outcomes
-pub mod FilterRefusals
-pub mod Reporting
-pub mod Running
+pub mod SessionRefusals
 pub mod Live
 mod Explained

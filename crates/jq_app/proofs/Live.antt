@@ -33,10 +33,10 @@ use Rattle.jq_script.specs.Serving.{Serving, serving}
 use Rattle.jq_script.specs.Serving as script
 use Rattle.jq_app.specs.Sessions.{IsSessionStopped, IsSessionDone, IsUnserved, RunsOut, Serves, if_room, no_start, too_many}
 use Rattle.jq_app.specs.Stages.{Stage, stage}
-use Rattle.jq_app.specs.private.Reports.{IsReport}
+use Rattle.jq_run.specs.Reports.{IsReport}
 use Rattle.jq_app.specs.private.Served.{IsAnswered, IsCutOff}
 use Rattle.jq_app.specs.private.Texts.{HaveTexts}
-use Rattle.jq_app.proofs.FilterRefusals.{memory_is_no_write, write_is_no_read}
+use Rattle.jq_run.proofs.shared.FilterRefusals.{memory_is_no_write, write_is_no_read}
 
 -- ---- the texts of the files
 

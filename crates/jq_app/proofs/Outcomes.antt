@@ -9,11 +9,11 @@ use Rattle.jv_meaning.proofs.shared.Results.{if_err_map, if_ok_map}
 use Rattle.jq_devices.specs.declared.faults.StreamFault.{StreamFault}
 use Rattle.jq_filters.specs.Outcomes.{Outcome}
 use Rattle.jq_stream.specs.Streams.{Streams}
-use Rattle.jq_app.specs.Filters.{IsAnswered, IsFilterDone, IsFilterStopped}
+use Rattle.jq_run.specs.Filters.{IsAnswered, IsFilterDone, IsFilterStopped, IsWritingStopped}
 use Rattle.jq_app.specs.Served.{IsConfigurationDone, IsReply, IsServed}
 use Rattle.jq_app.specs.Sessions.{IsSessionDone, IsSessionStopped}
 use Rattle.jq_app.specs.Stages.{Content, Files, Stage, files_of}
-use Rattle.jq_app.specs.Stopped.{IsConfigurationStopped, IsWritingStopped, IsStopped}
+use Rattle.jq_app.specs.Stopped.{IsConfigurationStopped, IsStopped}
 
 -- ---- clauses on a result that is known
 

@@ -1,5 +1,4 @@
 pub mod Stages
-pub mod Filters
 pub mod Sessions
 pub mod Served
 pub mod Explained

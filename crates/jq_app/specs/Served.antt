@@ -10,7 +10,7 @@ use Rattle.jq_devices.specs.Faults.{error_start}
 use Rattle.jq_devices.specs.Files.{contents}
 use Rattle.jq_filters.specs.Outcomes.{Outcome}
 use Rattle.jq_stream.specs.Streams.{Streams}
-use Rattle.jq_app.specs.Filters.{FilterNeedsInput, IsAnswered, IsFilterDone, refusal}
+use Rattle.jq_run.specs.Filters.{FilterNeedsInput, IsAnswered, IsFilterDone, refusal}
 use Rattle.jq_app.specs.Sessions.{IsAccepted, IsSessionDone}
 use Rattle.jq_app.specs.Stages.{Files, Stage}
 

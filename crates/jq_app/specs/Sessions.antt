@@ -16,7 +16,7 @@ use Rattle.jq_script.specs.Script.{Point, point}
 use Rattle.jq_script.specs.Serving.{Serving, serving}
 use Rattle.jq_script.specs.Serving as script
 use Rattle.jq_filters.specs.Accepted.{Accepts}
-use Rattle.jq_app.specs.Filters.{IsAnswered, IsRefusedFilter, NothingWritten, refusal}
+use Rattle.jq_run.specs.Filters.{IsAnswered, IsRefusedFilter, NothingWritten, refusal}
 use Rattle.jq_app.specs.Stages.{Stage}
 
 -- The filter is accepted.

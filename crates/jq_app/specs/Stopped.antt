@@ -12,14 +12,10 @@ use Rattle.jq_filters.specs.Outcomes.{Outcome}
 use Rattle.jq_stream.specs.Stopped.{WritesFirst}
 use Rattle.jq_stream.specs.Streams.{Streams}
 use Rattle.jq_app.specs.Blaming.{Failures, IsBlamed, IsWrittenUnlessFailed}
-use Rattle.jq_app.specs.Filters.{IsFilterStopped, NothingDone}
+use Rattle.jq_run.specs.Filters.{IsFilterStopped, IsWritingStopped, NothingDone}
 use Rattle.jq_app.specs.Served.{HasInput, IsReply, IsServed}
 use Rattle.jq_app.specs.Sessions.{IsSessionStopped}
 use Rattle.jq_app.specs.Stages.{Files, Stage}
-
--- A fault stopped the writing of this outcome: the first bytes of it were written, or memory ran out before. Nothing was read in the second case.
-abbrev pub IsWritingStopped : StreamFault → Outcome → (old new : Streams) → Type 0
-IsWritingStopped f outcome old new = (WritesFirst outcome old.outputs new.outputs × (f ≡ fault.Write)) ⊎ (NothingDone old new × (f ≡ fault.NoMemory))
 
 -- A fault stopped what this configuration asks for.
 abbrev pub IsConfigurationStopped : StreamFault → Files → Configuration → (old new : Stage) → Type 0

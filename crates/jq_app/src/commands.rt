@@ -12,11 +12,12 @@ ghost use Rattle.jq_app.specs.Stopped.{CommandResult, IsStopped};
 
 use crate::counts::Counts;
 use crate::notes::{asks_for_notes, fault_note, usage_note};
-use crate::refusals::{refuse, refuse_words, write_text};
+use crate::refusals::{refuse_words, write_text};
 use crate::serving::{Ended, run_config};
 use crate::words::report_noted;
 use jq_cli::{HELP_TEXT, UsageFault, VERSION_TEXT, config_of};
 use jq_devices::{FileReader, Opener, Read, StreamFault, UnnamedFiles, Watched, Write};
+use jq_run::refuse;
 use std::alloc::Global;
 
 /// What is left of a command: the status of the process, the counts of its starts, the reader of the files that its words name,

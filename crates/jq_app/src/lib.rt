@@ -1,15 +1,14 @@
 //! The command `jql`: what it does with its words, its input and its two outputs.
 //!
 //! The words of the process (`words`) ask for a configuration or are refused (`commands`). The filter of a configuration is
-//! compiled and run over the input (`serving`) or over the inputs of a session (`sessions`). In place of a run, the help text, the
-//! version or the reason of a refusal is written (`refusals`). With `--explain`, notes follow the lines on standard error (`notes`,
-//! `builtins`). The counts of starts are given to the command and come back (`counts`). The definitions that their contracts name
-//! are in `specs/`.
+//! compiled and run over the input (`serving`, by `jq_run`) or over the inputs of a session (`sessions`). In place of a run, the help
+//! text, the version or the reason of a refusal is written (`refusals`). With `--explain`, notes follow the lines on standard error
+//! (`notes`). The counts of starts are given to the command and come back (`counts`). The definitions that their contracts name are
+//! in `specs/`.
 //!
-//! Entry: `run_words`, `run_filter`. Tests: `tests/program.py`, `tests/options.toml`, `tests/memory.py`.
+//! Entry: `run_words`. Tests: `tests/program.py`, `tests/options.toml`, `tests/memory.py`.
 #![tactic(auto)]
 
-mod builtins;
 mod commands;
 mod counts;
 mod notes;
@@ -20,5 +19,4 @@ mod words;
 
 pub use commands::{Finished, run_words};
 pub use counts::Counts;
-pub use serving::{run_compiled, run_filter};
 pub use words::{arguments, report, report_misuse};

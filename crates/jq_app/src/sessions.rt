@@ -14,14 +14,15 @@ ghost use Rattle.jq_filters.specs.Filters.{IsFilterOf};
 ghost use Rattle.jq_app.specs.Blaming.{IsBlamed, failures};
 ghost use Rattle.jq_app.specs.Sessions.{IsAccepted, IsSessionDone, IsSessionStopped, too_many};
 ghost use Rattle.jq_app.specs.Stages.{stage, started_in};
-ghost use Rattle.jq_app.specs.private.Reports.{IsReport};
+ghost use Rattle.jq_run.specs.Reports.{IsReport};
 ghost use Rattle.jq_app.specs.private.Served.{IsAnswered, IsCutOff};
 ghost use Rattle.jq_app.specs.private.Texts.{HaveTexts};
 
 use crate::counts::Counts;
-use crate::refusals::{refuse_filter, refuse_inputs};
+use crate::refusals::refuse_inputs;
 use jq_devices::{Read, StreamFault, Watched, Write};
 use jq_filters::Filter;
+use jq_run::refuse_filter;
 use jq_script::{Host, copy_options, serve};
 use jq_session::laws::plans_are_by_the_tree;
 use jq_session::{Refusal, Session};

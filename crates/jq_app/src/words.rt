@@ -5,9 +5,9 @@ ghost use Rattle.jq_devices.specs.Watched.{device_of, failures_of};
 ghost use Rattle.jq_app.specs.Blaming.{IsWritten};
 ghost use Rattle.jq_app.specs.Served.{usage};
 
-use crate::notes::put_note;
 use crate::refusals::USAGE;
 use jq_devices::{StreamFault, Watched, Write, write};
+use jq_run::put_note;
 use std::env;
 use std::io::ErrorKind;
 use std::rt::Env;

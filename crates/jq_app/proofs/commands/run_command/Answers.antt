@@ -7,7 +7,7 @@ use Rattle.jq_app.specs.Served.{IsReply, by_clap, help, helped, misused, usage, 
 use Rattle.jq_app.specs.Stages.{stage, started_in}
 use Rattle.jq_app.proofs.Blaming.{blamed_by_print, blamed_by_report}
 use Rattle.jq_app.proofs.Outcomes.{served_configuration, served_reply, stopped_configuration, stopped_reply}
-use Rattle.jq_app.proofs.Reporting.{print_answered, print_stopped, report_answered, report_stopped, reported}
+use Rattle.jq_run.proofs.shared.Reporting.{print_answered, print_stopped, report_answered, report_stopped, reported}
 use Rattle.jq_app.proofs.commands.run_command.Goals as goal
 
 pub returns-in-Ok-clause-served : goal.returns-in-Ok-clause-served

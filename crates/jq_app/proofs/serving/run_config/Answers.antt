@@ -6,7 +6,7 @@ use Rattle.jq_devices.specs.Watched.{device_of}
 use Rattle.jq_starts.specs.Starts.{starts_in}
 use Rattle.jq_stream.specs.Streams.{streams_of}
 use Rattle.jq_syntax.specs.Chosen.{chosen}
-use Rattle.jq_app.specs.Filters.{FilterNeedsInput}
+use Rattle.jq_run.specs.Filters.{FilterNeedsInput}
 use Rattle.jq_app.specs.Sessions.{IsAccepted}
 use Rattle.jq_app.specs.Stages.{stage, started_in}
 use Rattle.jq_app.proofs.Blaming.{blamed_by_files, blamed_by_input, blamed_from, failed_from}

@@ -7,8 +7,9 @@ use Rattle.jq_syntax.specs.Chosen.{chosen}
 use Rattle.jv_meaning.proofs.shared.Results.{if_err_map, if_ok_map}
 use Rattle.jq_app.specs.Stages.{stage, started_in}
 use Rattle.jq_app.proofs.Blaming.{blamed_by_report}
-use Rattle.jq_app.proofs.FilterRefusals.{filter_refusal, session_refusal_stopped, session_refused}
-use Rattle.jq_app.proofs.Reporting.{report_answered, report_stopped}
+use Rattle.jq_run.proofs.shared.FilterRefusals.{filter_refusal}
+use Rattle.jq_run.proofs.shared.Reporting.{report_answered, report_stopped}
+use Rattle.jq_app.proofs.SessionRefusals.{session_refusal_stopped, session_refused}
 use Rattle.jq_app.proofs.sessions.run_session.Goals as goal
 
 pub returns-in-Ok-clause-done : goal.returns-in-Ok-clause-done

@@ -1,4 +1,4 @@
-use Rattle.jq_app.proofs.Reporting.{written_kept}
+use Rattle.jq_app.proofs.Keeping.{written_kept}
 use Rattle.jq_app.proofs.words.report_noted.Goals as goal
 
 pub returns-clause-reported : goal.returns-clause-reported

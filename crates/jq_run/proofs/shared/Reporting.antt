@@ -1,17 +1,14 @@
 -- Reports on one output, and their outcomes.
-use Rattle.std.proofs.Common.{◌≡◌, ◌≤◌, ◌∙◌, inl, inr, ℕ, List, [], Option, Result, Ok, Err, IfOk, IfErr, IsErrAnd, refl}
+use Rattle.std.proofs.Common.{◌≡◌, ◌∙◌, inl, inr, ℕ, List, [], Option, Result, Ok, Err, IfOk, IfErr, IsErrAnd, refl}
 use Rattle.std.specs.Io.KnownBytes.{Appends, Keeps}
 use Rattle.std.proofs.KnownBytes.{Appends-kept, Appends-nil}
 use Rattle.jq_devices.proofs.shared.Writing.{first_nothing, first_whole}
-use Rattle.jq_devices.proofs.shared.Failures.{failed_more}
 use Rattle.jq_devices.specs.declared.faults.StreamFault.{StreamFault}
 use Rattle.jq_devices.specs.declared.faults.StreamFault.TheVariants as fault
 use Rattle.jq_filters.specs.Outcomes.{Outcome}
 use Rattle.jq_stream.specs.Streams.{outputs, streams}
-use Rattle.jq_app.specs.Blaming.{IsWritten}
-use Rattle.jq_app.specs.Filters.{IsAnswered}
-use Rattle.jq_app.specs.Stopped.{IsWritingStopped}
-use Rattle.jq_app.specs.private.Reports.{IsReport}
+use Rattle.jq_run.specs.Filters.{IsAnswered, IsWritingStopped}
+use Rattle.jq_run.specs.Reports.{IsReport}
 
 abbrev pub reported : List ℕ → ℕ → Outcome
 reported bytes status = record { output = []; errors = bytes; status = status }
@@ -56,10 +53,3 @@ pub note_stopped : (r : Result ℕ StreamFault) (f : StreamFault) (bytes : List 
     → Appends old mid bytes → Keeps mid new → IsReport r bytes status old new
 note_stopped (Ok answer) f bytes status old mid new is write whole kept = absurd is
 note_stopped (Err x) f bytes status old mid new is write whole kept = inl (is ∙ write, first_whole old new bytes (Appends-kept old mid new bytes whole kept))
-
--- the bytes stay as they are
-pub written_kept : (bytes : List ℕ) (a b c : ℕ) (old mid new : Option (List ℕ)) → IsWritten bytes a b old mid → Keeps mid new → b ≤ c → IsWritten bytes a c old new
-written_kept bytes a b c old mid new written kept more = elim written [
-  | inl whole ↦ inl (Appends-kept old mid new bytes whole kept)
-  | inr part ↦ inr ((part.0.0, part.0.1, part.0.2, Appends-kept old mid new part.0.0 part.0.3 kept), failed_more a b c part.1 more)
-]

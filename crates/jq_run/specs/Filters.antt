@@ -64,3 +64,9 @@ IsFilterStopped f o text old new =
 -- The filter is accepted, and it runs on inputs.
 abbrev pub FilterNeedsInput : Chosen → List ℕ → Type 0
 FilterNeedsInput o text = (mode : Mode) × (job : Job) × Accepts o text mode job × (mode ≢ on_null false)
+
+-- ---- what is written in place of a run
+
+-- A fault stopped the writing of this outcome: the first bytes of it were written, or memory ran out before. Nothing was read in the second case.
+abbrev pub IsWritingStopped : StreamFault → Outcome → (old new : Streams) → Type 0
+IsWritingStopped f outcome old new = (WritesFirst outcome old.outputs new.outputs × (f ≡ fault.Write)) ⊎ (NothingDone old new × (f ≡ fault.NoMemory))

@@ -4,9 +4,9 @@ use Rattle.jq_devices.specs.Watched.{device_of}
 use Rattle.jq_stream.specs.Streams.{streams_of}
 use Rattle.jq_syntax.specs.Chosen.{chosen}
 use Rattle.jv_meaning.proofs.shared.Results.{if_err_map, if_ok_map, if_other}
-use Rattle.jq_app.proofs.FilterRefusals.{filter_refusal, filter_refusal_stopped, filter_refused}
-use Rattle.jq_app.proofs.Reporting.{report_answered, report_stopped}
-use Rattle.jq_app.proofs.serving.run_filter.Goals as goal
+use Rattle.jq_run.proofs.shared.FilterRefusals.{filter_refusal, filter_refusal_stopped, filter_refused}
+use Rattle.jq_run.proofs.shared.Reporting.{report_answered, report_stopped}
+use Rattle.jq_run.proofs.running.run_filter.Goals as goal
 
 pub returns-in-Err-clause-done : goal.returns-in-Err-clause-done
 returns-in-Err-clause-done g c =

@@ -1,5 +1,5 @@
 -- The refusal of a filter.
-use Rattle.std.proofs.Common.{◌≡◌, ◌++◌, ◌⊎◌, inl, inr, Bool, ℕ, List, Option, Result, Ok, Err, IfOk, IfErr, refl}
+use Rattle.std.proofs.Common.{◌≡◌, ◌++◌, ◌⊎◌, inl, inr, ℕ, List, Result, Ok, Err, IfOk, IfErr, refl}
 use Rattle.jq_devices.specs.declared.faults.StreamFault.{StreamFault}
 use Rattle.jq_devices.specs.declared.faults.StreamFault.TheVariants as fault
 use Rattle.jq_devices.specs.Faults.{error_start}
@@ -10,10 +10,7 @@ use Rattle.jq_syntax.specs.Compiled.{IsRefusal}
 use Rattle.jq_syntax.specs.Reasons.{reason}
 use Rattle.jq_syntax.specs.declared.faults.CompileFault.{CompileFault}
 use Rattle.jq_syntax.specs.declared.faults.CompileFault.TheVariants.{Lex, Syntax, TooManyTokens, TooNested, Undefined, InputsPlace, InputsNeedNull, NoMemory}
-use Rattle.jq_app.specs.Filters.{IsAnswered, IsFilterDone, IsFilterStopped, IsRefusedFilter, refusal, refused}
-use Rattle.jq_app.specs.Sessions.{IsSessionDone, IsSessionStopped, IsUnstarted}
-use Rattle.jq_app.specs.Stages.{Stage}
-use Rattle.jq_app.specs.Stopped.{IsWritingStopped}
+use Rattle.jq_run.specs.Filters.{IsAnswered, IsFilterDone, IsFilterStopped, IsRefusedFilter, IsWritingStopped, refusal, refused}
 
 abbrev pub filter_refusal : CompileFault → Outcome
 filter_refusal f = refusal (error_start ++ reason f) 3
@@ -29,10 +26,10 @@ refused_or_memory o text InputsPlace h = inl (refused InputsPlace h (λ e. cc))
 refused_or_memory o text InputsNeedNull h = inl (refused InputsNeedNull h (λ e. cc))
 refused_or_memory o text NoMemory h = inr refl
 
-answer_is_no_fault : (answer : ℕ) (f : StreamFault) (r : Result ℕ StreamFault) → r ≡ Ok answer → r ≡ Err f → ⊥
+pub answer_is_no_fault : (answer : ℕ) (f : StreamFault) (r : Result ℕ StreamFault) → r ≡ Ok answer → r ≡ Err f → ⊥
 answer_is_no_fault answer f r e h = cc
 
-write_is_no_memory : (f : StreamFault) (r : Result ℕ StreamFault) → r ≡ Err f → f ≡ fault.Write → r ≡ Err fault.NoMemory → ⊥
+pub write_is_no_memory : (f : StreamFault) (r : Result ℕ StreamFault) → r ≡ Err f → f ≡ fault.Write → r ≡ Err fault.NoMemory → ⊥
 write_is_no_memory f r e is h = cc
 
 pub write_is_no_read : (f : StreamFault) → f ≡ fault.Write → f ≡ fault.Read → ⊥
@@ -42,7 +39,7 @@ pub memory_is_no_write : (f : StreamFault) → f ≡ fault.NoMemory → f ≡ fa
 memory_is_no_write f e h = cc
 
 -- memory did not run out
-refused_in : (r : Result ℕ StreamFault) (o : Chosen) (text : List ℕ) (f : CompileFault) → IsRefusal text (setting o) f → (f ≡ NoMemory → r ≡ Err fault.NoMemory) → (r ≡ Err fault.NoMemory → ⊥)
+pub refused_in : (r : Result ℕ StreamFault) (o : Chosen) (text : List ℕ) (f : CompileFault) → IsRefusal text (setting o) f → (f ≡ NoMemory → r ≡ Err fault.NoMemory) → (r ≡ Err fault.NoMemory → ⊥)
     → IsRefusedFilter o text (filter_refusal f)
 refused_in r o text f is memory other = elim (refused_or_memory o text f is) [ inl why ↦ why | inr none ↦ absurd (other (memory none)) ]
 
@@ -60,20 +57,4 @@ filter_refusal_stopped (Ok answer) o text f old new unread is memory h = tt
 filter_refusal_stopped (Err x) o text f old new unread is memory h = elim h [
   | inl w ↦ inr (unread, filter_refusal f, refused_in (Err x) o text f is memory (write_is_no_memory x (Err x) refl w.1), w.0, w.1)
   | inr n ↦ inl (inr n)
-]
-
--- ---- in place of a session
-
-pub session_refused : (r : Result ℕ StreamFault) (files : Option (List ℕ)) (follow : Bool) (o : Chosen) (text : List ℕ) (f : CompileFault) (old new : Stage) → IsUnstarted old new → IsRefusal text (setting o) f
-    → (f ≡ NoMemory → r ≡ Err fault.NoMemory) → IfOk r (λ answer. IsAnswered (filter_refusal f) old.streams.outputs new.streams.outputs answer) → IfOk r (λ answer. IsSessionDone files follow o text old new answer)
-session_refused (Ok answer) files follow o text f old new unread is memory h =
-    inr (unread, filter_refusal f, inl (refused_in (Ok answer) o text f is memory (answer_is_no_fault answer fault.NoMemory (Ok answer) refl)), h)
-session_refused (Err x) files follow o text f old new unread is memory h = tt
-
-pub session_refusal_stopped : (r : Result ℕ StreamFault) (files : Option (List ℕ)) (follow : Bool) (o : Chosen) (text : List ℕ) (f : CompileFault) (old new : Stage) → IsUnstarted old new
-    → IsRefusal text (setting o) f → (f ≡ NoMemory → r ≡ Err fault.NoMemory) → IfErr r (λ x. IsWritingStopped x (filter_refusal f) old.streams new.streams) → IfErr r (λ x. IsSessionStopped x files follow o text old new)
-session_refusal_stopped (Ok answer) files follow o text f old new unread is memory h = tt
-session_refusal_stopped (Err x) files follow o text f old new unread is memory h = elim h [
-  | inl w ↦ inr (inl (unread, filter_refusal f, inl (refused_in (Err x) o text f is memory (write_is_no_memory x (Err x) refl w.1)), w.0, write_is_no_read x w.1))
-  | inr n ↦ inr (inr (inl (unread, n.0.1, memory_is_no_write x n.1)))
 ]

@@ -16,7 +16,7 @@ use Rattle.jq_filters.specs.declared.settings.Mode.{Mode}
 use Rattle.jq_filters.specs.declared.settings.Mode.TheVariants as mode
 use Rattle.jq_filters.specs.declared.settings.Settings.{Settings}
 use Rattle.jq_syntax.specs.Chosen.{Chosen}
-use Rattle.jq_app.specs.Filters.{HasRun, HasStopped, FilterNeedsInput}
+use Rattle.jq_run.specs.Filters.{HasRun, HasStopped, FilterNeedsInput}
 
 -- the settings and the job are those of the filter
 pub record Runs (p : Filter) (m : Mode) (j : Job) : Type 0 where

@@ -2,8 +2,8 @@ use Rattle.std.proofs.Common.{refl}
 use Rattle.std.proofs.KnownBytes.{Appends-kept}
 use Rattle.jq_devices.proofs.shared.Failures.{failed_after}
 use Rattle.jv_meaning.proofs.shared.Results.{error_returned}
-use Rattle.jq_app.proofs.Reporting.{note_stopped}
-use Rattle.jq_app.proofs.refusals.refuse.Goals as goal
+use Rattle.jq_run.proofs.shared.Reporting.{note_stopped}
+use Rattle.jq_run.proofs.refusals.refuse.Goals as goal
 
 pub returns-clause-report : goal.returns-clause-report
 returns-clause-report g c = (Appends-kept _ _ _ _ c.in_ok-write.ensures.ok c.in_ok-put_note.ensures.kept, refl)

@@ -1,0 +1,2 @@
+pub mod FilterRefusals
+pub mod Reporting
