@@ -2,4 +2,5 @@ pub mod Callees
 pub mod Language
 pub mod Pieces
 pub mod Outputs
+pub mod Entering
 pub mod private

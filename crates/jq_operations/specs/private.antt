@@ -8,3 +8,4 @@ pub mod CoreCalls
 pub mod Outermost
 pub mod Ranges
 pub mod Paths
+pub mod Bodies

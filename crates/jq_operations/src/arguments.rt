@@ -6,10 +6,8 @@ ghost use Rattle.jq_tree.specs.Tree.{trees_of};
 ghost use Rattle.jq_machine.specs.Evaluating as machine;
 ghost use Rattle.jq_state.specs.Environments.{count_of};
 ghost use Rattle.jq_state.specs.Items.{item_of};
-ghost use Rattle.jq_state.specs.Links.{scope_in};
-ghost use Rattle.jq_state.specs.Nexts.{ComesTo};
+ghost use Rattle.jq_state.specs.Nexts.{ComesTo, transition};
 ghost use Rattle.jq_state.specs.Steps.{builtin_of};
-ghost use Rattle.jq_state.specs.Views.{envs_in, frames_in, forks_in};
 
 use crate::builtins::apply;
 use crate::delivery::deliver;
@@ -34,7 +32,7 @@ pub fn next_argument<'p>(
     input: Item,
 ) -> Result<Next<'p>, NoMemory>
     requires { scope.env < count_of state.old.nodes }
-    ensures { IfOk result (λ n. ComesTo (λ inputs. machine.next_argument (builtin_of builtin) (trees_of (map named later.now)) (values_in known) (scope_in (envs_in inputs state.old) scope) (item_of input) (frames_in inputs state.old) (forks_in inputs state.old)) state.new n) }
+    ensures { IfOk result (λ n. ComesTo (transition state.old scope (λ p. machine.next_argument (builtin_of builtin) (trees_of (map named later.now)) (values_in known) p (item_of input))) state.new n) }
 {
     let Some((argument, later)) = later.split_first() else {
         let outputs = apply(alloc, builtin, input, known)?;

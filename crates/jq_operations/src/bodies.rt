@@ -1,16 +1,12 @@
 // The bodies of functions and of filters that were passed as arguments.
-ghost use Rattle.std.specs.Prelude.{◌≡◌, ◌<◌, ℕ, List, IfOk, map};
-ghost use Rattle.jv_meaning.specs.Text.{text_of};
+ghost use Rattle.std.specs.Prelude.{◌≡◌, ◌<◌, ℕ, IfOk};
 ghost use Rattle.jq_ast.specs.Named.{named};
-ghost use Rattle.jq_tree.specs.Tree.{trees_of};
-ghost use Rattle.jq_meaning.specs.Env.{Env, with_arguments};
 ghost use Rattle.jq_machine.specs.Evaluating as machine;
-ghost use Rattle.jq_machine.specs.State.{Frame, ForkPoint, state};
+ghost use Rattle.jq_machine.specs.State.{state};
 ghost use Rattle.jq_state.specs.Environments.{count_of};
 ghost use Rattle.jq_state.specs.Items.{item_of};
-ghost use Rattle.jq_state.specs.Nexts.{ComesTo, NextFits, next_in};
-ghost use Rattle.jq_state.specs.Nodes.{env_at};
-ghost use Rattle.jq_state.specs.Views.{envs_in, frames_in, forks_in};
+ghost use Rattle.jq_state.specs.Nexts.{ComesTo, NextFits};
+ghost use Rattle.jq_operations.specs.private.Bodies.{EntersBody, function_entered};
 
 use crate::call_arguments::bind_arguments;
 use jq_ast::{Function, Tree};
@@ -31,9 +27,7 @@ pub(crate) fn enter_function<'p>(
 ) -> Result<Next<'p>, NoMemory>
     requires caller { scope.env < count_of state.old.nodes }
     requires own { own < count_of state.old.nodes }
-    ensures { IfOk result (λ n. ComesTo (λ inputs. machine.enter_body scope.depth (named function.now.body)
-        (with_arguments (map text_of function.now.parameters.items) (trees_of (map named arguments.now)) (env_at (envs_in inputs state.old) scope.env) (env_at (envs_in inputs state.old) own))
-        scope.level (item_of input) (frames_in inputs state.old) (forks_in inputs state.old)) state.new n) }
+    ensures { IfOk result (λ n. ComesTo (function_entered state.old scope function.now own arguments.now (item_of input)) state.new n) }
 {
     let env = bind_arguments(
         state,
@@ -48,7 +42,7 @@ pub(crate) fn enter_function<'p>(
 // Runs a body in an environment, with a call depth that is smaller by one.
 pub(crate) fn enter_body<'p>(body: &'p Tree, env: u32, scope: Scope, input: Item) -> Next<'p>
     ensures fits { (count : ℕ) → env < count → NextFits count result }
-    ensures next { (envs : List Env) (k : List Frame) (fs : List ForkPoint) → state (next_in envs result) k fs ≡ machine.enter_body scope.depth (named body.now) (env_at envs env) scope.level (item_of input) k fs }
+    ensures next { EntersBody scope (named body.now) env (item_of input) result }
 {
     if scope.depth == 0 {
         return Next::Quit(Stop::Deep);

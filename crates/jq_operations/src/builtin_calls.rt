@@ -2,17 +2,15 @@
 ghost use Rattle.std.specs.Prelude.{◌≡◌, ◌<◌, [], IfOk, map};
 ghost use Rattle.jv_data.specs.View.{view};
 ghost use Rattle.jq_ast.specs.Named.{named};
-ghost use Rattle.jq_tree.specs.Tree.{Name, trees_of};
+ghost use Rattle.jq_tree.specs.Tree.{trees_of};
 ghost use Rattle.jq_tree.specs.Tree as form;
 ghost use Rattle.jq_machine.specs.Evaluating as machine;
 ghost use Rattle.jq_state.specs.Environments.{count_of};
 ghost use Rattle.jq_state.specs.Inputs.{inputs_of};
 ghost use Rattle.jq_state.specs.Items.{item_of};
-ghost use Rattle.jq_state.specs.Links.{scope_in};
-ghost use Rattle.jq_state.specs.Nexts.{ComesTo, ComesWith};
+ghost use Rattle.jq_state.specs.Nexts.{ComesTo, transition};
 ghost use Rattle.jq_state.specs.Steps.{builtin_of};
-ghost use Rattle.jq_state.specs.Views.{envs_in, frames_in, forks_in};
-ghost use Rattle.jq_operations.specs.Language.{meaning_of};
+ghost use Rattle.jq_operations.specs.private.Bodies.{EntersBuiltin};
 
 use crate::arguments::next_argument;
 use crate::delivery::{deliver_inputs, refuse_paths};
@@ -39,8 +37,7 @@ pub(crate) fn enter_builtin<'p>(
     inputs: &Inputs,
 ) -> Result<Next<'p>, NoMemory>
     requires { scope.env < count_of state.old.nodes }
-    ensures { IfOk result (λ n. (m : Name) → named tree.now ≡ form.call m (trees_of (map named arguments.now))
-        → ComesWith (inputs_of inputs.now) (machine.enter_builtin (meaning_of builtin) m (trees_of (map named arguments.now)) (scope_in (envs_in (inputs_of inputs.now) state.old) scope) (item_of input) (frames_in (inputs_of inputs.now) state.old) (forks_in (inputs_of inputs.now) state.old)) state.new n) }
+    ensures { IfOk result (EntersBuiltin (inputs_of inputs.now) state.old state.new scope tree.now arguments.now builtin (item_of input)) }
 {
     let Item { value, path } = input;
     if path.is_present() && !builtin.keeps_paths() {
@@ -80,7 +77,7 @@ fn first_argument<'p>(
     input: Item,
 ) -> Result<Next<'p>, NoMemory>
     requires { scope.env < count_of state.old.nodes }
-    ensures { IfOk result (λ n. ComesTo (λ inputs. machine.next_argument (builtin_of builtin) (trees_of (map named arguments.now)) [] (scope_in (envs_in inputs state.old) scope) (item_of input) (frames_in inputs state.old) (forks_in inputs state.old)) state.new n) }
+    ensures { IfOk result (λ n. ComesTo (transition state.old scope (λ p. machine.next_argument (builtin_of builtin) (trees_of (map named arguments.now)) [] p (item_of input))) state.new n) }
 {
     let known = Array::from_vec(alloc, Vec::new(alloc))?;
     next_argument(alloc, state, builtin, arguments, known, scope, input)
@@ -95,7 +92,7 @@ fn enter_paths<'p>(
     value: Val,
 ) -> Result<Next<'p>, NoMemory>
     requires { scope.env < count_of state.old.nodes }
-    ensures { IfOk result (λ n. ComesTo (λ inputs. machine.enter_paths (trees_of (map named arguments.now)) (scope_in (envs_in inputs state.old) scope) (view value) (frames_in inputs state.old) (forks_in inputs state.old)) state.new n) }
+    ensures { IfOk result (λ n. ComesTo (transition state.old scope (λ p. machine.enter_paths (trees_of (map named arguments.now)) p (view value))) state.new n) }
 {
     match arguments {
         [] => Ok(Next::GoBack),

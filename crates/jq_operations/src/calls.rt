@@ -1,6 +1,5 @@
 // Definitions and calls.
 ghost use Rattle.std.specs.Prelude.{◌≡◌, ◌<◌, IfOk, map};
-ghost use Rattle.jv_meaning.specs.Text.{text_of};
 ghost use Rattle.jq_ast.specs.Named.{name_of, named};
 ghost use Rattle.jq_tree.specs.Tree.{trees_of};
 ghost use Rattle.jq_tree.specs.Tree as form;
@@ -8,9 +7,8 @@ ghost use Rattle.jq_machine.specs.Evaluating.{enter};
 ghost use Rattle.jq_state.specs.Environments.{count_of};
 ghost use Rattle.jq_state.specs.Inputs.{inputs_of};
 ghost use Rattle.jq_state.specs.Items.{item_of};
-ghost use Rattle.jq_state.specs.Links.{scope_in};
-ghost use Rattle.jq_state.specs.Nexts.{ComesTo, ComesWith};
-ghost use Rattle.jq_state.specs.Views.{envs_in, frames_in, forks_in};
+ghost use Rattle.jq_state.specs.Nexts.{ComesTo, ComesWith, transition};
+ghost use Rattle.jq_operations.specs.Entering.{called, defined};
 
 use crate::bodies::{enter_body, enter_function};
 use crate::builtin_calls::enter_builtin;
@@ -36,7 +34,7 @@ pub fn enter_define<'p>(
     input: Item,
 ) -> Result<Next<'p>, NoMemory>
     requires { scope.env < count_of state.old.nodes }
-    ensures { IfOk result (λ n. ComesTo (λ inputs. enter (form.define (text_of function.now.name) (map text_of function.now.parameters.items) (named function.now.body) (named rest.now)) (scope_in (envs_in inputs state.old) scope) (item_of input) (frames_in inputs state.old) (forks_in inputs state.old)) state.new n) }
+    ensures { IfOk result (λ n. ComesTo (transition state.old scope (λ p. enter (defined function.now (named rest.now)) p (item_of input))) state.new n) }
 {
     let env = state.add(Binding::Function(function), scope.env)?;
     let inside = Scope {
@@ -56,7 +54,7 @@ pub fn enter_prelude_call<'p>(
     input: Item,
 ) -> Result<Next<'p>, NoMemory>
     requires { scope.env < count_of state.old.nodes }
-    ensures { IfOk result (λ n. ComesTo (λ inputs. enter (form.prelude_call (name_of name.now) (trees_of (map named arguments.now))) (scope_in (envs_in inputs state.old) scope) (item_of input) (frames_in inputs state.old) (forks_in inputs state.old)) state.new n) }
+    ensures { IfOk result (λ n. ComesTo (transition state.old scope (λ p. enter (form.prelude_call (name_of name.now) (trees_of (map named arguments.now))) p (item_of input))) state.new n) }
 {
     match find_in_prelude(state.nodes(), name, arguments.len(), scope.env) {
         Callee::Function(function, own) => {
@@ -80,7 +78,7 @@ pub fn enter_call<'p>(
 ) -> Result<Next<'p>, NoMemory>
     requires env { scope.env < count_of state.old.nodes }
     requires tree { named tree.now ≡ form.call (name_of name.now) (trees_of (map named arguments.now)) }
-    ensures { IfOk result (λ n. ComesWith (inputs_of inputs.now) (enter (form.call (name_of name.now) (trees_of (map named arguments.now))) (scope_in (envs_in (inputs_of inputs.now) state.old) scope) (item_of input) (frames_in (inputs_of inputs.now) state.old) (forks_in (inputs_of inputs.now) state.old)) state.new n) }
+    ensures { IfOk result (λ n. ComesWith (inputs_of inputs.now) (transition state.old scope (λ p. enter (called name.now arguments.now) p (item_of input)) (inputs_of inputs.now)) state.new n) }
 {
     match find_callee(state.nodes(), name, arguments.len(), scope.env) {
         Callee::Function(function, own) => {

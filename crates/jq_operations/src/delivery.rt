@@ -1,5 +1,5 @@
 // Outputs are given to the waiting frames.
-ghost use Rattle.std.specs.Prelude.{◌<◌, ◌∷◌, [], IfOk, map, reverse};
+ghost use Rattle.std.specs.Prelude.{◌<◌, ◌∷◌, IfOk, map, reverse};
 ghost use Rattle.jv_data.specs.View.{view};
 ghost use Rattle.jq_ast.specs.Named.{named};
 ghost use Rattle.jq_meaning.specs.Builtins.{plain_items, numbers_up_to};
@@ -8,13 +8,13 @@ ghost use Rattle.jq_machine.specs.Operations as machine;
 ghost use Rattle.jq_machine.specs.State as abstract;
 ghost use Rattle.jq_operations.specs.Outputs.{outputs_of};
 ghost use Rattle.jq_state.specs.Environments.{count_of};
-ghost use Rattle.jq_state.specs.Forks.{choice_in, run_after};
+ghost use Rattle.jq_state.specs.Forks.{run_after};
 ghost use Rattle.jq_state.specs.Inputs.{inputs_of};
 ghost use Rattle.jq_state.specs.Items.{item_of};
-ghost use Rattle.jq_state.specs.Links.{scope_in};
-ghost use Rattle.jq_state.specs.Nexts.{ComesTo, ComesWith};
-ghost use Rattle.jq_state.specs.Views.{envs_in, frames_in, forks_in};
-ghost use Rattle.jq_operations.specs.private.Outermost.{outermost_scope};
+ghost use Rattle.jq_state.specs.Nexts.{ComesTo, ComesWith, on_stack, transition};
+ghost use Rattle.jq_state.specs.Views.{frames_in, forks_in};
+ghost use Rattle.jq_operations.specs.Entering.{refusing};
+ghost use Rattle.jq_operations.specs.private.Outermost.{giving_first};
 
 use crate::outputs::Outputs;
 use jq_ast::Tree;
@@ -98,7 +98,7 @@ fn give_first<'p>(
     item: Item,
     others: Choice<'p>,
 ) -> Result<Next<'p>, NoMemory>
-    ensures { IfOk result (λ n. ComesTo (λ inputs. abstract.state (abstract.give (item_of item)) (frames_in inputs state.old) (abstract.fork (choice_in others.entry (outermost_scope (envs_in inputs state.old))) [] (frames_in inputs state.old) ∷ forks_in inputs state.old)) state.new n) }
+    ensures { IfOk result (λ n. ComesTo (giving_first state.old (item_of item) others.entry) state.new n) }
 {
     state.fork(others, Vec::new(alloc), OUTERMOST)?;
     Ok(Next::Give(item))
@@ -111,7 +111,7 @@ pub fn deliver_inputs<'p>(
     inputs: &Inputs,
     index: usize,
 ) -> Result<Next<'p>, NoMemory>
-    ensures { IfOk result (λ n. ComesWith (inputs_of inputs.now) (machine.deliver (run_after index (plain_items (inputs_of inputs.now))) (frames_in (inputs_of inputs.now) state.old) (forks_in (inputs_of inputs.now) state.old)) state.new n) }
+    ensures { IfOk result (λ n. ComesWith (inputs_of inputs.now) (on_stack state.old (machine.deliver (run_after index (plain_items (inputs_of inputs.now)))) (inputs_of inputs.now)) state.new n) }
 {
     let Some(value) = inputs.values.get(index) else {
         return match &inputs.fault {
@@ -135,7 +135,7 @@ pub fn refuse_paths<'p>(
     value: Val,
 ) -> Result<Next<'p>, NoMemory>
     requires { scope.env < count_of state.old.nodes }
-    ensures { IfOk result (λ n. ComesTo (λ inputs. abstract.state (abstract.evaluate (named tree.now) (scope_in (envs_in inputs state.old) scope) (plain (view value))) (abstract.operation abstract.refuse ∷ frames_in inputs state.old) (forks_in inputs state.old)) state.new n) }
+    ensures { IfOk result (λ n. ComesTo (transition state.old scope (refusing (named tree.now) (plain (view value)))) state.new n) }
 {
     state.push(Step::Operation(Operation::Refuse), scope)?;
     Ok(Next::Evaluate(tree, scope, Item::plain(value)))

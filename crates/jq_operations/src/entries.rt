@@ -6,10 +6,8 @@ ghost use Rattle.jv_data.specs.Shared.{text_in};
 ghost use Rattle.jv_data.specs.View.{view};
 ghost use Rattle.jq_machine.specs.Evaluating as machine;
 ghost use Rattle.jq_state.specs.Environments.{count_of};
-ghost use Rattle.jq_state.specs.Links.{scope_in};
-ghost use Rattle.jq_state.specs.Nexts.{ComesTo};
+ghost use Rattle.jq_state.specs.Nexts.{ComesTo, transition};
 ghost use Rattle.jq_state.specs.Steps.{named_entries};
-ghost use Rattle.jq_state.specs.Views.{envs_in, frames_in, forks_in};
 
 use crate::constants::entry_key;
 use crate::waiting::run_part;
@@ -32,7 +30,7 @@ pub fn next_entry<'p>(
     input: Val,
 ) -> Result<Next<'p>, NoMemory>
     requires { scope.env < count_of state.old.nodes }
-    ensures { IfOk result (λ n. ComesTo (λ inputs. machine.next_entry (named_entries later.now) (members_in made) (scope_in (envs_in inputs state.old) scope) (view input) (frames_in inputs state.old) (forks_in inputs state.old)) state.new n) }
+    ensures { IfOk result (λ n. ComesTo (transition state.old scope (λ p. machine.next_entry (named_entries later.now) (members_in made) p (view input))) state.new n) }
 {
     let Some((entry, later)) = later.split_first() else {
         return Ok(Next::Give(Item::plain(Val::Table(made))));

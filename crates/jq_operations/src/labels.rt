@@ -1,5 +1,5 @@
 // Labels and breaks.
-ghost use Rattle.std.specs.Prelude.{◌≡◌, ◌<◌, IfOk, MatchOption, map};
+ghost use Rattle.std.specs.Prelude.{◌≡◌, ◌<◌, IfOk, MatchOption};
 ghost use Rattle.jv_meaning.specs.Value.{Value};
 ghost use Rattle.jv_meaning.specs.Text.{text_of};
 ghost use Rattle.jq_ast.specs.Named.{name_of, named};
@@ -10,10 +10,8 @@ ghost use Rattle.jq_meaning.specs.Runs as runs;
 ghost use Rattle.jq_machine.specs.Evaluating.{enter};
 ghost use Rattle.jq_state.specs.Environments.{count_of, envs_of};
 ghost use Rattle.jq_state.specs.Items.{item_of};
-ghost use Rattle.jq_state.specs.Links.{scope_in};
-ghost use Rattle.jq_state.specs.Nexts.{ComesTo};
+ghost use Rattle.jq_state.specs.Nexts.{ComesTo, transition};
 ghost use Rattle.jq_state.specs.Nodes.{env_at};
-ghost use Rattle.jq_state.specs.Views.{envs_in, frames_in, forks_in};
 ghost use Rattle.jq_operations.specs.private.Levels.{HasNoLevel, HasLevel};
 
 use crate::program::program_is_a_list;
@@ -36,7 +34,7 @@ pub fn enter_label<'p>(
     input: Item,
 ) -> Result<Next<'p>, NoMemory>
     requires { scope.env < count_of state.old.nodes }
-    ensures { IfOk result (λ n. ComesTo (λ inputs. enter (form.label (text_of name.now) (named body.now)) (scope_in (envs_in inputs state.old) scope) (item_of input) (frames_in inputs state.old) (forks_in inputs state.old)) state.new n) }
+    ensures { IfOk result (λ n. ComesTo (transition state.old scope (λ p. enter (form.label (text_of name.now) (named body.now)) p (item_of input))) state.new n) }
 {
     if scope.level == u32::MAX {
         return Err(NoMemory);
@@ -55,7 +53,7 @@ pub fn enter_label<'p>(
 /// A break leaves its label. Without a label there are no outputs.
 pub fn enter_break<'p>(state: &State<'p>, name: &Name, scope: Scope) -> Next<'p>
     requires { scope.env < count_of state.now.nodes }
-    ensures { (x : runs.Item) → ComesTo (λ inputs. enter (form.break (name_of name.now)) (scope_in (envs_in inputs state.now) scope) x (frames_in inputs state.now) (forks_in inputs state.now)) state.now result }
+    ensures { (x : runs.Item) → ComesTo (transition state.now scope (λ p. enter (form.break (name_of name.now)) p x)) state.now result }
 {
     match find_level(state.nodes(), name, scope.env) {
         Some(level) => Next::Leave(level),

@@ -5,11 +5,9 @@ ghost use Rattle.jq_ast.specs.Named.{name_of};
 ghost use Rattle.jq_machine.specs.Evaluating as machine;
 ghost use Rattle.jq_state.specs.Environments.{count_of};
 ghost use Rattle.jq_state.specs.Items.{item_of};
-ghost use Rattle.jq_state.specs.Links.{scope_in};
-ghost use Rattle.jq_state.specs.Nexts.{ComesTo};
+ghost use Rattle.jq_state.specs.Nexts.{ComesTo, transition};
 ghost use Rattle.jq_state.specs.Steps.{hole_of};
 ghost use Rattle.jq_operations.specs.Pieces.{named_pieces};
-ghost use Rattle.jq_state.specs.Views.{envs_in, frames_in, forks_in};
 
 use crate::waiting::run_part;
 use jq_ast::{Name, Piece, Tree};
@@ -32,7 +30,7 @@ pub fn next_hole<'p>(
     input: Item,
 ) -> Result<Next<'p>, NoMemory>
     requires { scope.env < count_of state.old.nodes }
-    ensures { IfOk result (λ n. ComesTo (λ inputs. machine.next_hole (name_of format.now) (text_in back) (reverse (map hole_of earlier.now)) (scope_in (envs_in inputs state.old) scope) (item_of input) (frames_in inputs state.old) (forks_in inputs state.old)) state.new n) }
+    ensures { IfOk result (λ n. ComesTo (transition state.old scope (λ p. machine.next_hole (name_of format.now) (text_in back) (reverse (map hole_of earlier.now)) p (item_of input))) state.new n) }
 {
     let Some((piece, earlier)) = earlier.split_last() else {
         return Ok(Next::Give(Item::plain(Val::Text(back))));
@@ -53,7 +51,7 @@ pub fn enter_pieces<'p>(
     input: Item,
 ) -> Result<Next<'p>, NoMemory>
     requires { scope.env < count_of state.old.nodes }
-    ensures { IfOk result (λ n. ComesTo (λ inputs. machine.enter_pieces (name_of format.now) (named_pieces pieces.now last.now) [] (scope_in (envs_in inputs state.old) scope) (item_of input) (frames_in inputs state.old) (forks_in inputs state.old)) state.new n) }
+    ensures { IfOk result (λ n. ComesTo (transition state.old scope (λ p. machine.enter_pieces (name_of format.now) (named_pieces pieces.now last.now) [] p (item_of input))) state.new n) }
 {
     let back = SharedText::from_string(alloc, String::from_str(alloc, last.as_str())?)?;
     next_hole(alloc, state, format, back, pieces, scope, input)

@@ -1,7 +1,6 @@
 // Texts of values in strings.
 ghost use Rattle.std.specs.Prelude.{◌≡◌, ◌++◌, IfOk};
 ghost use Rattle.std.specs.Str.{chars};
-ghost use Rattle.jv_data.specs.Shared.{};
 ghost use Rattle.jv_meaning.specs.Text.{text_of};
 ghost use Rattle.jv_data.specs.View.{view};
 ghost use Rattle.jv_text.specs.Formats.{Text, GivesText};

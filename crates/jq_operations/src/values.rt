@@ -9,10 +9,8 @@ ghost use Rattle.jq_meaning.specs.Runs.{Run};
 ghost use Rattle.jq_machine.specs.Evaluating.{enter};
 ghost use Rattle.jq_state.specs.Environments.{count_of, envs_of, program_of};
 ghost use Rattle.jq_state.specs.Items.{item_of};
-ghost use Rattle.jq_state.specs.Links.{scope_in};
-ghost use Rattle.jq_state.specs.Nexts.{ComesTo};
+ghost use Rattle.jq_state.specs.Nexts.{ComesTo, transition};
 ghost use Rattle.jq_state.specs.Nodes.{env_at};
-ghost use Rattle.jq_state.specs.Views.{envs_in, frames_in, forks_in};
 ghost use Rattle.jq_operations.specs.private.Values.{HasNoValue, HasValue};
 
 use crate::delivery::refuse_paths;
@@ -37,7 +35,7 @@ pub fn enter_variable<'p>(
 ) -> Result<Next<'p>, NoMemory>
     requires env { scope.env < count_of state.old.nodes }
     requires tree { named tree.now ≡ form.variable (name_of name.now) }
-    ensures { IfOk result (λ n. ComesTo (λ inputs. enter (form.variable (name_of name.now)) (scope_in (envs_in inputs state.old) scope) (item_of input) (frames_in inputs state.old) (forks_in inputs state.old)) state.new n) }
+    ensures { IfOk result (λ n. ComesTo (transition state.old scope (λ p. enter (form.variable (name_of name.now)) p (item_of input))) state.new n) }
 {
     let Item { value, path } = input;
     if path.is_present() {

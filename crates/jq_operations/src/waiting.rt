@@ -4,10 +4,8 @@ ghost use Rattle.jq_ast.specs.Named.{named};
 ghost use Rattle.jq_machine.specs.State as machine;
 ghost use Rattle.jq_state.specs.Environments.{count_of};
 ghost use Rattle.jq_state.specs.Items.{item_of};
-ghost use Rattle.jq_state.specs.Links.{scope_in};
-ghost use Rattle.jq_state.specs.Nexts.{ComesTo};
+ghost use Rattle.jq_state.specs.Nexts.{ComesTo, transition};
 ghost use Rattle.jq_state.specs.Steps.{making_in};
-ghost use Rattle.jq_state.specs.Views.{envs_in, frames_in, forks_in};
 
 use jq_ast::Tree;
 use jq_state::frames::Scope;
@@ -28,7 +26,7 @@ pub fn run_part<'p>(
     input: Item,
 ) -> Result<Next<'p>, NoMemory>
     requires { scope.env < count_of state.old.nodes }
-    ensures { IfOk result (λ n. ComesTo (λ inputs. machine.state (machine.evaluate (named part.now) (scope_in (envs_in inputs state.old) scope) (item_of input)) (making_in form.entry (scope_in (envs_in inputs state.old) scope) ∷ frames_in inputs state.old) (forks_in inputs state.old)) state.new n) }
+    ensures { IfOk result (λ n. ComesTo (transition state.old scope (λ p k fs. machine.state (machine.evaluate (named part.now) p (item_of input)) (making_in form.entry p ∷ k) fs)) state.new n) }
 {
     state.push(Step::Making(Box::new(alloc, form)?), scope)?;
     Ok(Next::Evaluate(part, scope, input))

@@ -4,9 +4,8 @@ ghost use Rattle.jq_machine.specs.Matching as machine;
 ghost use Rattle.jq_machine.specs.Operations.{state_in};
 ghost use Rattle.jq_machine.specs.Stack.{cell_at};
 ghost use Rattle.jq_state.specs.Environments.{count_of};
-ghost use Rattle.jq_state.specs.Nexts.{ComesTo};
+ghost use Rattle.jq_state.specs.Nexts.{ComesTo, transition};
 ghost use Rattle.jq_state.specs.Steps.{binder_of, fold_of};
-ghost use Rattle.jq_receive.specs.private.Transitions.{transition};
 
 use jq_state::forks::Choice;
 use jq_state::frames::Scope;

@@ -1,14 +1,13 @@
 // Items that are given to the frames of patterns and of the start values of folds.
 ghost use Rattle.std.specs.Prelude.{◌≡◌, ◌<◌, IfOk};
-ghost use Rattle.jq_ast.specs.Named.{named, named_as_pattern};
 ghost use Rattle.jq_machine.specs.Giving as machine;
 ghost use Rattle.jq_machine.specs.State as frame;
 ghost use Rattle.jq_state.specs.Environments.{count_of};
 ghost use Rattle.jq_state.specs.Forks.{choice_in};
 ghost use Rattle.jq_state.specs.Items.{item_of};
-ghost use Rattle.jq_state.specs.Nexts.{ComesTo};
+ghost use Rattle.jq_state.specs.Nexts.{ComesTo, transition};
+ghost use Rattle.jq_receive.specs.private.Transitions.{fold_begun};
 ghost use Rattle.jq_state.specs.Steps.{binding_in, fold_of};
-ghost use Rattle.jq_receive.specs.private.Transitions.{transition};
 
 use crate::items::{into_plain, into_value};
 use crate::parts::part_at;
@@ -66,7 +65,7 @@ fn fold_start<'p>(
     item: Item,
 ) -> Result<Next<'p>, NoMemory>
     requires { scope.env < count_of state.old.nodes }
-    ensures { IfOk result (λ n. ComesTo (transition state.old scope (λ p. machine.receive (frame.fold_start (named source.now) (named_as_pattern pattern.now) (fold_of fold.entry) p (item_of input)) (item_of item))) state.new n) }
+    ensures { IfOk result (λ n. ComesTo (transition state.old scope (fold_begun source.now pattern.now fold.entry (item_of input) (item_of item))) state.new n) }
 {
     let height = state.height();
     let mut cell = Vec::new(alloc);

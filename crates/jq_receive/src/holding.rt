@@ -4,10 +4,9 @@ ghost use Rattle.jq_machine.specs.Giving as machine;
 ghost use Rattle.jq_machine.specs.State as frame;
 ghost use Rattle.jq_state.specs.Environments.{count_of};
 ghost use Rattle.jq_state.specs.Items.{item_of};
-ghost use Rattle.jq_state.specs.Nexts.{ComesTo};
+ghost use Rattle.jq_state.specs.Nexts.{ComesTo, transition};
 ghost use Rattle.jq_state.specs.Steps.{fold_of, holding_in};
 ghost use Rattle.jq_state.specs.Views.{frames_in, forks_in};
-ghost use Rattle.jq_receive.specs.private.Transitions.{transition};
 
 use crate::items::{into_plain, is_true};
 use jq_state::frames::Scope;

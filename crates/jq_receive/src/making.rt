@@ -1,16 +1,17 @@
 // Items that are given to the frames of objects, strings and calls, which are made part by part.
-ghost use Rattle.std.specs.Prelude.{◌<◌, ℕ, IfOk, List, Result, map, reverse};
+ghost use Rattle.std.specs.Prelude.{◌<◌, ℕ, IfOk, List, Result};
 ghost use Rattle.jv_data.specs.Held.{members_in};
 ghost use Rattle.jv_meaning.specs.Value.{Value};
 ghost use Rattle.jv_data.specs.View.{view};
-ghost use Rattle.jq_ast.specs.Named.{name_of, named};
+ghost use Rattle.jq_ast.specs.Named.{named};
 ghost use Rattle.jq_machine.specs.Giving as machine;
 ghost use Rattle.jq_operations.specs.Outputs.{Inserts};
 ghost use Rattle.jq_state.specs.Environments.{count_of};
 ghost use Rattle.jq_state.specs.Items.{item_of};
-ghost use Rattle.jq_state.specs.Nexts.{ComesTo};
-ghost use Rattle.jq_state.specs.Steps.{hole_of, making_in, named_entries};
-ghost use Rattle.jq_receive.specs.private.Transitions.{transition};
+ghost use Rattle.jv_text.specs.Formats.{Text};
+ghost use Rattle.jq_receive.specs.private.Transitions.{filled};
+ghost use Rattle.jq_state.specs.Nexts.{ComesTo, transition};
+ghost use Rattle.jq_state.specs.Steps.{making_in, named_entries};
 
 use crate::items::into_value;
 use crate::parts::{Part, part_at};
@@ -119,7 +120,7 @@ fn fill_hole<'p>(
     input: Item,
 ) -> Result<Next<'p>, NoMemory>
     requires { scope.env < count_of state.old.nodes }
-    ensures { (front back : List ℕ) (inserted : Result (List ℕ) Value) → Inserts front inserted back text → IfOk result (λ n. ComesTo (transition state.old scope (λ p. machine.fill_hole inserted (name_of format.now) front back (reverse (map hole_of earlier.now)) p (item_of input))) state.new n) }
+    ensures { (front back : List ℕ) (t : Text) → Inserts front t back text → IfOk result (ComesTo (transition state.old scope (filled t front back format.now earlier.now (item_of input))) state.new) }
 {
     match text {
         Inserted::Text(back) => next_hole(alloc, state, format, back, earlier, scope, input),

@@ -1,20 +1,19 @@
 // Patterns, which bind variables to parts of a value.
-ghost use Rattle.std.specs.Prelude.{◌≡◌, ◌∷◌, ◌<◌, IfOk, OnOk, map};
+ghost use Rattle.std.specs.Prelude.{◌≡◌, ◌∷◌, ◌<◌, IfOk, OnOk};
 ghost use Rattle.jv_meaning.specs.Value.{Value};
 ghost use Rattle.jv_meaning.specs.Text.{text_of};
 ghost use Rattle.jv_data.specs.View.{view};
-ghost use Rattle.jq_ast.specs.Named.{named_as_part, named_as_pattern};
-ghost use Rattle.jq_tree.specs.Tree.{parts_of, patterns_of};
+ghost use Rattle.jq_ast.specs.Named.{named_as_pattern};
 ghost use Rattle.jq_meaning.specs.Runs.{Run};
 ghost use Rattle.jq_machine.specs.Matching as machine;
 ghost use Rattle.jq_machine.specs.State as task;
 ghost use Rattle.jq_state.specs.Environments.{count_of};
 ghost use Rattle.jq_state.specs.Links.{scope_in};
-ghost use Rattle.jq_state.specs.Nexts.{ComesTo};
+ghost use Rattle.jq_state.specs.Nexts.{ComesTo, on_remaining, transition};
 ghost use Rattle.jq_state.specs.Steps.{binder_of, task_of, tasks_of};
 ghost use Rattle.jq_state.specs.Views.{envs_in, frames_in, forks_in};
 ghost use Rattle.jq_receive.specs.private.Found.{answer_of};
-ghost use Rattle.jq_receive.specs.private.Transitions.{ComesAnywhere, binding, transition};
+ghost use Rattle.jq_receive.specs.private.Transitions.{ComesAnywhere, binding, items_left, members_left, part_matched};
 
 use crate::binders::run_bound;
 use crate::parts::{Part, part_at};
@@ -38,7 +37,7 @@ pub fn match_pattern<'p>(
     scope: Scope,
 ) -> Result<Next<'p>, NoMemory>
     requires { scope.env < count_of state.old.nodes }
-    ensures { IfOk result (λ n. ComesTo (λ inputs. machine.match_pattern (named_as_pattern pattern.now) (view value) (tasks_of remaining.entry.value.tasks.items) (binder_of remaining.entry.value.binder) (scope_in (envs_in inputs state.old) scope) (frames_in inputs state.old) (forks_in inputs state.old)) state.new n) }
+    ensures { IfOk result (λ n. ComesTo (transition state.old scope (on_remaining remaining.entry.value (machine.match_pattern (named_as_pattern pattern.now) (view value)))) state.new n) }
 {
     match pattern {
         Pattern::Whole(name) => {
@@ -64,7 +63,7 @@ pub fn match_later<'p>(
     scope: Scope,
 ) -> Result<Next<'p>, NoMemory>
     requires { scope.env < count_of state.old.nodes }
-    ensures { IfOk result (λ n. ComesTo (λ inputs. machine.match_later (tasks_of remaining.entry.value.tasks.items) (binder_of remaining.entry.value.binder) (scope_in (envs_in inputs state.old) scope) (frames_in inputs state.old) (forks_in inputs state.old)) state.new n) }
+    ensures { IfOk result (λ n. ComesTo (transition state.old scope (on_remaining remaining.entry.value machine.match_later)) state.new n) }
 {
     match remaining.tasks.pop() {
         Some(Task::Items(patterns, index, value)) => {
@@ -86,7 +85,7 @@ fn match_items<'p>(
     remaining: Box<Remaining<'p>>,
     scope: Scope,
 ) -> Result<Next<'p>, NoMemory>
-    ensures { IfOk result (ComesAnywhere scope (machine.match_later (task.items_from (patterns_of (map named_as_pattern patterns.now)) index (view value) ∷ tasks_of remaining.entry.value.tasks.items) (binder_of remaining.entry.value.binder))) }
+    ensures { IfOk result (ComesAnywhere scope (on_remaining remaining.entry.value (λ ts. machine.match_later (items_left patterns.now index (view value) ∷ ts)))) }
 {
     let Some((pattern, rest)) = patterns.split_first() else {
         return Ok(Next::Matched(remaining, scope));
@@ -109,7 +108,7 @@ fn match_members<'p>(
     scope: Scope,
 ) -> Result<Next<'p>, NoMemory>
     requires { scope.env < count_of state.old.nodes }
-    ensures { IfOk result (λ n. ComesTo (transition state.old scope (machine.match_later (task.members_of (parts_of (map named_as_part members.now)) (view value) ∷ tasks_of remaining.entry.value.tasks.items) (binder_of remaining.entry.value.binder))) state.new n) }
+    ensures { IfOk result (λ n. ComesTo (transition state.old scope (on_remaining remaining.entry.value (λ ts. machine.match_later (members_left members.now (view value) ∷ ts)))) state.new n) }
 {
     let Some((member, rest)) = members.split_first() else {
         return Ok(Next::Matched(remaining, scope));
@@ -150,7 +149,7 @@ pub(crate) fn match_part<'p>(
     remaining: Box<Remaining<'p>>,
     scope: Scope,
 ) -> Next<'p>
-    ensures { ComesAnywhere scope (λ p. machine.match_part (answer_of part) (named_as_pattern pattern.now) (λ w. p) (tasks_of remaining.entry.value.tasks.items) (binder_of remaining.entry.value.binder)) result }
+    ensures { ComesAnywhere scope (part_matched remaining.entry.value (answer_of part) pattern.now (λ w p. p)) result }
 {
     match part {
         Part::Value(value) => Next::Matching(pattern, value, remaining, scope),
@@ -168,7 +167,7 @@ fn match_named<'p>(
     scope: Scope,
 ) -> Result<Next<'p>, NoMemory>
     requires { scope.env < count_of state.old.nodes }
-    ensures { IfOk result (λ n. ComesTo (transition state.old scope (λ p. machine.match_part (answer_of part) (named_as_pattern pattern.now) (λ w. binding (text_of name.now) w p) (tasks_of remaining.entry.value.tasks.items) (binder_of remaining.entry.value.binder))) state.new n) }
+    ensures { IfOk result (λ n. ComesTo (transition state.old scope (part_matched remaining.entry.value (answer_of part) pattern.now (binding (text_of name.now)))) state.new n) }
 {
     match part {
         Part::Value(value) => {

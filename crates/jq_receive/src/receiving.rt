@@ -4,10 +4,8 @@ ghost use Rattle.jq_machine.specs.Giving as machine;
 ghost use Rattle.jq_machine.specs.Operations as operations;
 ghost use Rattle.jq_state.specs.Environments.{count_of};
 ghost use Rattle.jq_state.specs.Items.{item_of};
-ghost use Rattle.jq_state.specs.Links.{scope_in};
-ghost use Rattle.jq_state.specs.Nexts.{ComesTo};
+ghost use Rattle.jq_state.specs.Nexts.{ComesTo, on_stack, transition};
 ghost use Rattle.jq_state.specs.Steps.{operation_of, step_in};
-ghost use Rattle.jq_state.specs.Views.{envs_in, frames_in, forks_in};
 
 use crate::binding::bind;
 use crate::combining::combine;
@@ -33,7 +31,7 @@ pub fn receive<'p>(
     item: Item,
 ) -> Result<Next<'p>, NoMemory>
     requires { scope.env < count_of state.old.nodes }
-    ensures { IfOk result (λ n. ComesTo (λ inputs. machine.receive (step_in step.entry (scope_in (envs_in inputs state.old) scope)) (item_of item) (frames_in inputs state.old) (forks_in inputs state.old)) state.new n) }
+    ensures { IfOk result (λ n. ComesTo (transition state.old scope (λ p. machine.receive (step_in step.entry p) (item_of item))) state.new n) }
 {
     match step {
         Step::Operation(operation) => operate(alloc, state, operation, item),
@@ -51,7 +49,7 @@ fn operate<'p>(
     operation: Operation<'p>,
     item: Item,
 ) -> Result<Next<'p>, NoMemory>
-    ensures { IfOk result (λ n. ComesTo (λ inputs. operations.deliver (operations.result_of (operation_of operation.entry) (item_of item)) (frames_in inputs state.old) (forks_in inputs state.old)) state.new n) }
+    ensures { IfOk result (λ n. ComesTo (on_stack state.old (operations.deliver (operations.result_of (operation_of operation.entry) (item_of item)))) state.new n) }
 {
     let outputs = run(alloc, operation, item)?;
     deliver(alloc, state, outputs)

@@ -6,9 +6,8 @@ ghost use Rattle.jq_machine.specs.Giving as machine;
 ghost use Rattle.jq_machine.specs.State as frame;
 ghost use Rattle.jq_state.specs.Environments.{count_of};
 ghost use Rattle.jq_state.specs.Items.{item_of};
-ghost use Rattle.jq_state.specs.Nexts.{ComesTo};
+ghost use Rattle.jq_state.specs.Nexts.{ComesTo, transition};
 ghost use Rattle.jq_state.specs.Steps.{selecting_in};
-ghost use Rattle.jq_receive.specs.private.Transitions.{transition};
 
 use crate::items::{into_plain, into_value};
 use jq_ast::Tree;

@@ -12,8 +12,10 @@ use Rattle.jq_state.specs.Items.{item_of}
 use Rattle.jq_state.specs.Links.{scope_in}
 use Rattle.jq_state.specs.Steps.{binder_of, tasks_of}
 use Rattle.jq_state.specs.Views.{envs_in, frames_in, forks_in}
+use Rattle.jq_state.specs.declared.frames.Scope.{Scope}
 use Rattle.jq_state.specs.declared.states.State.{State}
 use Rattle.jq_state.specs.declared.next.Next.{Next}
+use Rattle.jq_state.specs.declared.next.Remaining.{Remaining}
 use Rattle.jq_state.specs.declared.next.Next.TheVariants as next
 use Rattle.jq_state.specs.declared.next.Stop.{Stop}
 use Rattle.jq_state.specs.declared.next.Stop.TheVariants as stop
@@ -54,3 +56,19 @@ ComesTo goal s n = NextFits (count_of s.nodes) n × ((inputs : Run Value) → st
 -- The same for one run of `inputs`.
 abbrev pub ComesWith : (inputs : Run Value) → (goal : machine.State) → State → Next → Type 0
 ComesWith inputs goal s n = NextFits (count_of s.nodes) n × (stands inputs s n ≡ goal)
+
+-- A transition in a scope, with frames and fork points.
+abbrev pub Transition : Type 0
+Transition = machine.Scope → List machine.Frame → List machine.ForkPoint → machine.State
+
+-- a transition in a scope, with a state's frames and fork points
+abbrev pub transition : State → Scope → Transition → Run Value → machine.State
+transition s p go inputs = go (scope_in (envs_in inputs s) p) (frames_in inputs s) (forks_in inputs s)
+
+-- a transition with a state's frames and fork points
+abbrev pub on_stack : State → (List machine.Frame → List machine.ForkPoint → machine.State) → Run Value → machine.State
+on_stack s go inputs = go (frames_in inputs s) (forks_in inputs s)
+
+-- a transition on what remains of a match: the tasks, and what follows them
+abbrev pub on_remaining : {A : Type 0} → Remaining → (List machine.Task → machine.Binder → A) → A
+on_remaining r go = go (tasks_of r.tasks.items) (binder_of r.binder)
