@@ -11,7 +11,7 @@ ghost use Rattle.jq_state.specs.Links.{scope_in};
 ghost use Rattle.jq_state.specs.Steps.{step_in};
 ghost use Rattle.jq_state.specs.Views.{envs_in, frames_in, forks_in};
 ghost use Rattle.jq_backtracking.specs.Outcomes.{Steps};
-ghost use Rattle.jq_backtracking.specs.private.Handling.{caught, handled_at, HandlerFits};
+ghost use Rattle.jq_backtracking.specs.private.Handling.{Finds, handled_at, HandlerFits};
 
 use crate::outcomes::{Ending, Progress};
 use jq_ast::Tree;
@@ -58,7 +58,7 @@ pub fn raise<'p>(state: &mut State<'p>, error: Val) -> Result<Progress<'p>, NoMe
 fn find_handler<'p>(state: &mut State<'p>) -> Option<Handler<'p>>
     ensures nodes { state.new.nodes ≡ state.old.nodes }
     ensures fits { IfSome result (HandlerFits (count_of state.old.nodes)) }
-    ensures frames { (inputs : Run Value) (v : Value) (fs : List ForkPoint) → machine.find_handler v (frames_in inputs state.old) fs ≡ caught (envs_in inputs state.old) result v (frames_in inputs state.new) fs }
+    ensures frames { (inputs : Run Value) → Finds (envs_in inputs state.old) (frames_in inputs state.old) (frames_in inputs state.new) result }
     ensures forks { (inputs : Run Value) → forks_in inputs state.new ≡ forks_in inputs state.old }
 {
     'frames: while let Some((step, scope)) = state.top() {

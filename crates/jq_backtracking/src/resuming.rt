@@ -4,12 +4,11 @@ ghost use Rattle.jq_machine.specs.Machine as machine;
 ghost use Rattle.jq_machine.specs.Stack.{cell_at};
 ghost use Rattle.jq_machine.specs.State.{go_back};
 ghost use Rattle.jq_state.specs.Environments.{count_of};
-ghost use Rattle.jq_state.specs.Forks.{cell_of, choice_in};
 ghost use Rattle.jq_state.specs.Inputs.{inputs_of};
-ghost use Rattle.jq_state.specs.Links.{scope_in};
-ghost use Rattle.jq_state.specs.Nexts.{ComesTo, ComesWith};
-ghost use Rattle.jq_state.specs.Views.{envs_in, frames_in, forks_in};
+ghost use Rattle.jq_state.specs.Nexts.{ComesTo, ComesWith, transition};
+ghost use Rattle.jq_state.specs.Views.{frames_in, forks_in};
 ghost use Rattle.jq_backtracking.specs.Outcomes.{Steps};
+ghost use Rattle.jq_backtracking.specs.private.Handling.{resumed};
 
 use crate::cells::{array_of, state_of};
 use crate::outcomes::{Ending, Progress};
@@ -60,7 +59,7 @@ fn resume<'p>(
     inputs: &Inputs,
 ) -> Result<Next<'p>, NoMemory>
     requires { fork.scope.env < count_of state.old.nodes }
-    ensures { IfOk result (λ n. ComesWith (inputs_of inputs.now) (machine.resume (choice_in fork.entry.choice (scope_in (envs_in (inputs_of inputs.now) state.old) fork.entry.scope)) (cell_of fork.entry.cell) (frames_in (inputs_of inputs.now) state.old) (forks_in (inputs_of inputs.now) state.old)) state.new n) }
+    ensures { IfOk result (λ n. ComesWith (inputs_of inputs.now) (transition state.old fork.entry.scope (resumed fork.entry) (inputs_of inputs.now)) state.new n) }
 {
     let Fork {
         choice,

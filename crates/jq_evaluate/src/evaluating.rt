@@ -5,9 +5,7 @@ ghost use Rattle.jq_machine.specs.Evaluating as machine;
 ghost use Rattle.jq_state.specs.Environments.{count_of};
 ghost use Rattle.jq_state.specs.Inputs.{inputs_of};
 ghost use Rattle.jq_state.specs.Items.{item_of};
-ghost use Rattle.jq_state.specs.Links.{scope_in};
-ghost use Rattle.jq_state.specs.Nexts.{ComesWith};
-ghost use Rattle.jq_state.specs.Views.{envs_in, frames_in, forks_in};
+ghost use Rattle.jq_state.specs.Nexts.{ComesWith, transition};
 
 use crate::binding::{enter_bind_as, enter_foreach, enter_reduce};
 use crate::composition::{enter_alternative, enter_choice, enter_comma, enter_pipe, enter_try};
@@ -38,7 +36,7 @@ pub fn enter<'p>(
     inputs: &Inputs,
 ) -> Result<Next<'p>, NoMemory>
     requires { scope.env < count_of state.old.nodes }
-    ensures { IfOk result (λ n. ComesWith (inputs_of inputs.now) (machine.enter (named tree.now) (scope_in (envs_in (inputs_of inputs.now) state.old) scope) (item_of input) (frames_in (inputs_of inputs.now) state.old) (forks_in (inputs_of inputs.now) state.old)) state.new n) }
+    ensures { IfOk result (λ n. ComesWith (inputs_of inputs.now) (transition state.old scope (λ p. machine.enter (named tree.now) p (item_of input)) (inputs_of inputs.now)) state.new n) }
 {
     match tree {
         Tree::Identity => Ok(Next::Give(input)),

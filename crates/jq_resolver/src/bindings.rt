@@ -1,9 +1,9 @@
 // The binders around a tree, found by their names in constant time on average.
-ghost use Rattle.std.specs.Prelude.{◌≡◌, ◌∷◌, [], ◌-◌, ◌<◌, suc, false, IfOk, MatchOption, OnOk, drop, length};
-ghost use Rattle.jq_tree.specs.BoundTree.{bound_at, nowhere};
+ghost use Rattle.std.specs.Prelude.{◌≡◌, ◌∷◌, [], ◌-◌, ◌<◌, false, IfOk, MatchOption, OnOk, drop, length};
+ghost use Rattle.jq_tree.specs.BoundTree.{nowhere};
 ghost use Rattle.jq_tree.specs.Binders.{binder, prelude_binder};
 ghost use Rattle.jq_tree.specs.Names.{is_bound, same_reference};
-ghost use Rattle.jq_resolver.specs.private.Bindings.{reference_in, references, referred};
+ghost use Rattle.jq_resolver.specs.private.Bindings.{IsBinder, IsPreludeBinder, reference_in, references, referred};
 ghost use Rattle.jq_resolver.specs.private.Buckets.{bucket_of, seed_of};
 
 use jv_data::NoMemory;
@@ -95,10 +95,7 @@ impl Bindings {
 
     // The innermost binder of a name, as the number of binders outside it.
     pub(crate) fn innermost(&self, kind: Kind, name: &str) -> Option<usize>
-        ensures { MatchOption result
-            (is_bound (referred kind name.now) (references self.now) ≡ false)
-            (λ i. (i < length (references self.now))
-            × (binder (references self.now) (referred kind name.now) ≡ bound_at (length (references self.now) - suc i))) }
+        ensures { MatchOption result (is_bound (referred kind name.now) (references self.now) ≡ false) (IsBinder (references self.now) (referred kind name.now)) }
     {
         let mut left = self.latest[bucket_of(kind, name)];
         while left > 0 {
@@ -113,10 +110,7 @@ impl Bindings {
 
     // The outermost binder of a name, as the number of binders outside it.
     pub(crate) fn outermost(&self, kind: Kind, name: &str) -> Option<usize>
-        ensures { MatchOption result
-            (prelude_binder (references self.now) (referred kind name.now) ≡ nowhere)
-            (λ i. (i < length (references self.now))
-            × (prelude_binder (references self.now) (referred kind name.now) ≡ bound_at (length (references self.now) - suc i))) }
+        ensures { MatchOption result (prelude_binder (references self.now) (referred kind name.now) ≡ nowhere) (IsPreludeBinder (references self.now) (referred kind name.now)) }
     {
         for i in 0..self.binders.len() {
             if binds(&self.binders[i], kind, name) {

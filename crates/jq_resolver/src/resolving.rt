@@ -2,7 +2,7 @@
 ghost use Rattle.std.specs.Prelude.{◌≡◌, true, OnOk};
 ghost use Rattle.jq_ast.specs.Named.{named};
 ghost use Rattle.jq_resolver.specs.private.Forms.{is_binder, is_pair};
-ghost use Rattle.jq_resolver.specs.private.Resolved.{Chain, IsDefinitionResolved, IsEntryResolved, IsPartResolved, IsPatternResolved, IsPieceResolved, IsResolved};
+ghost use Rattle.jq_resolver.specs.private.Resolved.{Chain, IsDefinitionResolved, IsEntryResolved, IsPartResolved, IsPatternResolved, IsPieceResolved, IsResolved, AreTwoResolved};
 ghost use Rattle.jq_resolver.specs.private.Scopes.{bound_names};
 
 use crate::bindings::Kind;
@@ -107,8 +107,7 @@ fn resolve_two(
     first: &mut Box<Tree>,
     second: &mut Box<Tree>,
 ) -> Result<(), NoMemory>
-    ensures { OnOk result (IsResolved (bound_names scope.old) (bound_names scope.new) first.old.value first.new.value
-        × IsResolved (bound_names scope.old) (bound_names scope.new) second.old.value second.new.value) }
+    ensures { OnOk result (AreTwoResolved (bound_names scope.old) (bound_names scope.new) first.old.value first.new.value second.old.value second.new.value) }
 {
     resolve_tree(scope, first)?;
     resolve_tree(scope, second)?;

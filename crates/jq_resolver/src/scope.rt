@@ -5,7 +5,7 @@ ghost use Rattle.jq_tree.specs.BoundTree.{bound_at, nowhere};
 ghost use Rattle.jq_tree.specs.Binders.{binder, prelude_binder};
 ghost use Rattle.jq_tree.specs.Names.{Reference, is_bound, with_parameters};
 ghost use Rattle.jq_ast.specs.Bound.{binder_at};
-ghost use Rattle.jq_resolver.specs.private.Bindings.{referred};
+ghost use Rattle.jq_resolver.specs.private.Bindings.{IsBinder, IsPreludeBinder, referred};
 ghost use Rattle.jq_resolver.specs.private.Scopes.{bound_names};
 
 use crate::bindings::{Bindings, Kind};
@@ -71,20 +71,14 @@ impl Scope {
 
     // The innermost binder of a name, as the number of binders outside it.
     pub(crate) fn innermost(&self, kind: Kind, name: &str) -> Option<usize>
-        ensures { MatchOption result
-            (is_bound (referred kind name.now) (bound_names self.now) ≡ false)
-            (λ i. (i < length (bound_names self.now))
-            × (binder (bound_names self.now) (referred kind name.now) ≡ bound_at (length (bound_names self.now) - suc i))) }
+        ensures { MatchOption result (is_bound (referred kind name.now) (bound_names self.now) ≡ false) (IsBinder (bound_names self.now) (referred kind name.now)) }
     {
         self.bindings.innermost(kind, name)
     }
 
     // The outermost binder of a name, as the number of binders outside it.
     pub(crate) fn outermost(&self, kind: Kind, name: &str) -> Option<usize>
-        ensures { MatchOption result
-            (prelude_binder (bound_names self.now) (referred kind name.now) ≡ nowhere)
-            (λ i. (i < length (bound_names self.now))
-            × (prelude_binder (bound_names self.now) (referred kind name.now) ≡ bound_at (length (bound_names self.now) - suc i))) }
+        ensures { MatchOption result (prelude_binder (bound_names self.now) (referred kind name.now) ≡ nowhere) (IsPreludeBinder (bound_names self.now) (referred kind name.now)) }
     {
         self.bindings.outermost(kind, name)
     }

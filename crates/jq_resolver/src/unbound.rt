@@ -6,7 +6,7 @@ ghost use Rattle.jq_ast.specs.CoreNames.{core_reference};
 ghost use Rattle.jq_tree.specs.Names.{same_reference};
 ghost use Rattle.jq_resolver.specs.Programs.{bound_program};
 ghost use Rattle.jq_resolver.specs.Undefined.{IsFirstUndefined, reference_of};
-ghost use Rattle.jq_resolver.specs.private.Waiting.{is_somewhere, reference_at, use_of};
+ghost use Rattle.jq_resolver.specs.private.Waiting.{is_somewhere, use_of};
 
 use crate::uses::{Sort, UsedName, Uses};
 use jq_ast::{Core, Function, Referent, Tree, core_of};

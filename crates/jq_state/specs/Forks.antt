@@ -9,6 +9,7 @@ use Rattle.jq_machine.specs.State as machine
 use Rattle.jq_state.specs.Items.{item_of}
 use Rattle.jq_state.specs.Links.{scope_in, last_mark}
 use Rattle.jq_state.specs.declared.frames.Frame.{Frame}
+use Rattle.jq_state.specs.declared.frames.Scope.{Scope}
 use Rattle.jq_state.specs.declared.items.Item.{Item}
 use Rattle.jq_state.specs.declared.forks.Choice.{Choice}
 use Rattle.jq_state.specs.declared.forks.Choice.TheVariants as choice
@@ -37,6 +38,10 @@ left_in c = 0
 
 abbrev pub cell_of : Vec Item Global → machine.Cell
 cell_of c = map item_of c.items
+
+-- a fork point with a choice in a scope, a cell and frames
+abbrev pub fork_at : List Env → Choice → Vec Item Global → Scope → List machine.Frame → machine.ForkPoint
+fork_at envs c cell p k = machine.fork (choice_in c (scope_in envs p)) (cell_of cell) k
 
 -- Computed from the environments and the continuations by index.
 abbrev pub fork_in : List Env → List (List machine.Frame) → Fork → machine.ForkPoint

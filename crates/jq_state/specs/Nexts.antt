@@ -65,8 +65,8 @@ Transition = machine.Scope → List machine.Frame → List machine.ForkPoint →
 abbrev pub transition : State → Scope → Transition → Run Value → machine.State
 transition s p go inputs = go (scope_in (envs_in inputs s) p) (frames_in inputs s) (forks_in inputs s)
 
--- a transition with a state's frames and fork points
-abbrev pub on_stack : State → (List machine.Frame → List machine.ForkPoint → machine.State) → Run Value → machine.State
+-- what is done with a state's frames and fork points
+abbrev pub on_stack : {A : Type 0} → State → (List machine.Frame → List machine.ForkPoint → A) → Run Value → A
 on_stack s go inputs = go (frames_in inputs s) (forks_in inputs s)
 
 -- a transition on what remains of a match: the tasks, and what follows them

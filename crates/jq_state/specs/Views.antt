@@ -1,5 +1,5 @@
 -- The machine's frames and fork points that a run's state represents.
-use Rattle.std.specs.Prelude.{ℕ, List, [], ◌∷◌, map, max, reverse, take, Bool, true, false}
+use Rattle.std.specs.Prelude.{◌≡◌, ℕ, List, [], ◌∷◌, map, max, reverse, take, Bool, true, false}
 use Rattle.jv_meaning.specs.Value.{Value}
 use Rattle.jq_meaning.specs.Env.{Env}
 use Rattle.jq_meaning.specs.Runs.{Run}
@@ -37,6 +37,10 @@ needed_envs s = max (last_mark 0 (take (needed_frames s) s.frames.frames.items))
 abbrev pub without_first : {A : Type 0} → List A → List A
 without_first [] = []
 without_first (x ∷ xs) = xs
+
+-- This is the first element of a list.
+abbrev pub IsFirst : {A : Type 0} → A → List A → Type 0
+IsFirst x xs = xs ≡ x ∷ without_first xs
 
 abbrev pub is_empty : {A : Type 0} → List A → Bool
 is_empty [] = true

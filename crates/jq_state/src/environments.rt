@@ -45,10 +45,10 @@ pub struct Nodes<'p> {
 impl<'p> Nodes<'p> {
     ghost use Rattle.std.specs.Prelude.{◌≡◌, ◌≤◌, ◌++◌, ◌∷◌, [], IfOk, OnOk, IfSome, IfNone, take, map};
     ghost use Rattle.jv_meaning.specs.Value.{Value};
-    ghost use Rattle.jq_meaning.specs.Env.{outermost, bound};
+    ghost use Rattle.jq_meaning.specs.Env.{outermost};
     ghost use Rattle.jq_meaning.specs.Runs.{Run};
     ghost use Rattle.jq_bindings.specs.Programs.{program_env};
-    ghost use Rattle.jq_state.specs.Nodes.{BindingFits, NodeFits, binding_in, env_at, node_in, program_binding, program_envs};
+    ghost use Rattle.jq_state.specs.Nodes.{BindingFits, NodeFits, env_at, node_in, program_binding, program_envs};
     ghost use Rattle.jq_state.specs.Listed.{bindings_in, items_in};
     ghost use Rattle.jq_state.specs.Environments.{count_of, envs_of, first_count, program_of};
 
@@ -91,7 +91,7 @@ impl<'p> Nodes<'p> {
         ensures count { OnOk result (count_of self.new ≡ count_of self.old + 1) }
         ensures first { first_count self.new ≡ first_count self.old }
         ensures grows { count_of self.old ≤ count_of self.new }
-        ensures envs { OnOk result ((inputs : Run Value) → envs_of inputs self.new ≡ envs_of inputs self.old ++ bound (binding_in (envs_of inputs self.old) binding.entry) (env_at (envs_of inputs self.old) outer) ∷ []) }
+        ensures envs { OnOk result ((inputs : Run Value) → envs_of inputs self.new ≡ envs_of inputs self.old ++ node_in (envs_of inputs self.old) (record { binding = binding.entry; outer = outer }) ∷ []) }
     {
         let index = self.count();
         if index == u32::MAX {

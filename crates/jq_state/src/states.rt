@@ -45,15 +45,16 @@ impl<'p> State<'p> {
     ghost use Rattle.jq_machine.specs.Operations.{state_in};
     ghost use Rattle.jq_machine.specs.Stack.{cell_at, cut, set_cell};
     ghost use Rattle.jq_machine.specs.Machine.{step_of};
-    ghost use Rattle.jq_machine.specs.State.{fork, give, go_back, moves, state};
+    ghost use Rattle.jq_machine.specs.State.{give, go_back, moves, state};
     ghost use Rattle.jq_state.specs.Items.{item_of};
     ghost use Rattle.jq_state.specs.Nodes.{BindingFits, binding_in, env_at, program_binding};
     ghost use Rattle.jq_state.specs.Listed.{items_in};
     ghost use Rattle.jq_state.specs.Environments.{program_of};
     ghost use Rattle.jq_state.specs.Links.{scope_in};
+    ghost use Rattle.jq_state.specs.Nexts.{on_stack};
     ghost use Rattle.jq_state.specs.Steps.{step_in};
-    ghost use Rattle.jq_state.specs.Forks.{choice_in, cell_of, last_frames, last_envs};
-    ghost use Rattle.jq_state.specs.Views.{envs_in, frames_in, forks_in, needed_frames, needed_envs, newest_left, without_first, is_empty};
+    ghost use Rattle.jq_state.specs.Forks.{fork_at, last_frames, last_envs};
+    ghost use Rattle.jq_state.specs.Views.{envs_in, frames_in, forks_in, needed_frames, needed_envs, newest_left, without_first, IsFirst, is_empty};
 
     /// A state in the program's own environments, with no frame and no fork point. Out of memory only if the program has 2^32 - 1
     /// bindings or more.
@@ -116,7 +117,7 @@ impl<'p> State<'p> {
         requires { scope.env < count_of self.old.nodes }
         ensures envs { self.new.nodes ≡ self.old.nodes }
         ensures frames { OnOk result ((inputs : Run Value) → frames_in inputs self.new ≡ frames_in inputs self.old) }
-        ensures forks { OnOk result ((inputs : Run Value) → forks_in inputs self.new ≡ fork (choice_in choice.entry (scope_in (envs_in inputs self.old) scope)) (cell_of cell) (frames_in inputs self.old) ∷ forks_in inputs self.old) }
+        ensures forks { OnOk result ((inputs : Run Value) → forks_in inputs self.new ≡ fork_at (envs_in inputs self.old) choice.entry cell scope (frames_in inputs self.old) ∷ forks_in inputs self.old) }
     {
         if self.forks.len() >= 4_294_967_294 {
             return Err(NoMemory);
@@ -137,7 +138,7 @@ impl<'p> State<'p> {
     pub fn go_back(&mut self) -> Option<Fork<'p>>
         ensures none { IfNone result ((inputs : Run Value) → forks_in inputs self.old ≡ []) }
         ensures scope { IfSome result (λ f. f.scope.env < count_of self.new.nodes) }
-        ensures forks { IfSome result (λ f. (inputs : Run Value) → forks_in inputs self.old ≡ fork (choice_in f.choice (scope_in (envs_in inputs self.new) f.scope)) (cell_of f.cell) (frames_in inputs self.new) ∷ forks_in inputs self.new) }
+        ensures forks { IfSome result (λ f. (inputs : Run Value) → forks_in inputs self.old ≡ fork_at (envs_in inputs self.new) f.choice f.cell f.scope (frames_in inputs self.new) ∷ forks_in inputs self.new) }
     {
         let Some(fork) = self.forks.pop() else {
             return None;
@@ -155,7 +156,7 @@ impl<'p> State<'p> {
         ensures none_frames { IfNone result ((inputs : Run Value) → frames_in inputs self.new ≡ frames_in inputs self.old) }
         ensures none_forks { IfNone result ((inputs : Run Value) → forks_in inputs self.new ≡ forks_in inputs self.old) }
         ensures few { IfNone result (newest_left self.old ≤ 1) }
-        ensures some { IfSome result (λ x. (inputs : Run Value) → step_of go_back (frames_in inputs self.old) (forks_in inputs self.old) ≡ moves (state (give (item_of x)) (frames_in inputs self.new) (forks_in inputs self.new))) }
+        ensures some { IfSome result (λ x. (inputs : Run Value) → on_stack self.old (step_of go_back) inputs ≡ moves (on_stack self.new (state (give (item_of x))) inputs)) }
     {
         let count = self.forks.len();
         if count == 0 {
@@ -281,7 +282,7 @@ impl<'p> State<'p> {
     pub fn top(&self) -> Option<(&Step<'p>, Scope)>
         ensures none { IfNone result ((inputs : Run Value) → frames_in inputs self.now ≡ []) }
         ensures scope { IfSome result (λ r. r.1.env < count_of self.now.nodes) }
-        ensures frames { IfSome result (λ r. (inputs : Run Value) → frames_in inputs self.now ≡ step_in r.0.now (scope_in (envs_in inputs self.now) r.1) ∷ without_first (frames_in inputs self.now)) }
+        ensures frames { IfSome result (λ r. (inputs : Run Value) → IsFirst (step_in r.0.now (scope_in (envs_in inputs self.now) r.1)) (frames_in inputs self.now)) }
     {
         if self.top == 0 {
             return None;
@@ -293,7 +294,7 @@ impl<'p> State<'p> {
     /// The frame outside of the one that gets the next item, with its scope, if there is one.
     pub fn second(&self) -> Option<(&Step<'p>, Scope)>
         ensures scope { IfSome result (λ r. r.1.env < count_of self.now.nodes) }
-        ensures frames { IfSome result (λ r. (inputs : Run Value) → without_first (frames_in inputs self.now) ≡ step_in r.0.now (scope_in (envs_in inputs self.now) r.1) ∷ without_first (without_first (frames_in inputs self.now))) }
+        ensures frames { IfSome result (λ r. (inputs : Run Value) → IsFirst (step_in r.0.now (scope_in (envs_in inputs self.now) r.1)) (without_first (frames_in inputs self.now))) }
     {
         if self.top == 0 {
             return None;

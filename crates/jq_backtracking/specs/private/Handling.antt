@@ -1,13 +1,16 @@
--- What an error and a break find in the frames.
-use Rattle.std.specs.Prelude.{ℕ, ◌<◌, suc, List, ◌∷◌, if◌then◌else◌, Option, Some, None}
+-- What an error and a break find in the frames, and what a fork point does.
+use Rattle.std.specs.Prelude.{◌≡◌, ℕ, ◌<◌, suc, List, ◌∷◌, if◌then◌else◌, Option, Some, None}
 use Rattle.jv_meaning.specs.Value.{Value}
 use Rattle.jq_ast.specs.Named.{named}
 use Rattle.jq_meaning.specs.Env.{Env}
 use Rattle.jq_meaning.specs.Runs.{Raised, Broken, plain}
-use Rattle.jq_machine.specs.Machine.{find_handler, find_label}
+use Rattle.jq_machine.specs.Machine.{find_handler, find_label, resume}
 use Rattle.jq_machine.specs.Stack.{cut}
 use Rattle.jq_machine.specs.State.{Frame, ForkPoint, Progress, state, evaluate, go_back, operation, refuse, moves, finishes}
+use Rattle.jq_state.specs.Forks.{cell_of, choice_in}
 use Rattle.jq_state.specs.Links.{scope_in}
+use Rattle.jq_state.specs.Nexts.{Transition}
+use Rattle.jq_state.specs.declared.forks.Fork.{Fork}
 use Rattle.jq_backtracking.specs.declared.handlers.Handler.{Handler}
 use Rattle.jq_backtracking.specs.declared.handlers.Handler.TheVariants as handler
 
@@ -40,3 +43,13 @@ left_at level (Some h) k fs = moves (state go_back k (cut h fs))
 abbrev pub label_at : ℕ → Option ℕ → List Frame → List ForkPoint → Progress
 label_at level None k fs = find_label level k fs
 label_at level (Some h) k fs = moves (state go_back k (cut h fs))
+
+-- An error finds this handler in the frames, and these are outside of it.
+abbrev pub Finds : List Env → (before after : List Frame) → Option Handler → Type 0
+Finds envs before after found = (v : Value) (fs : List ForkPoint) → find_handler v before fs ≡ caught envs found v after fs
+
+-- ---- a fork point
+
+-- a fork point's choice is made
+abbrev pub resumed : Fork → Transition
+resumed f p = resume (choice_in f.choice p) (cell_of f.cell)

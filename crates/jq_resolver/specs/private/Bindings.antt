@@ -1,6 +1,8 @@
 -- The binders of the code as references of the definitions.
-use Rattle.std.specs.Prelude.{ℕ, List, map, string_bytes}
+use Rattle.std.specs.Prelude.{◌≡◌, ◌<◌, ◌-◌, ℕ, suc, List, length, map, string_bytes}
 use Rattle.std.specs.Str.{chars}
+use Rattle.jq_tree.specs.Binders.{binder, prelude_binder}
+use Rattle.jq_tree.specs.BoundTree.{bound_at}
 use Rattle.jq_tree.specs.Names.{Reference, to_function, to_variable, to_label, Scope}
 use Rattle.jq_resolver.specs.declared.bindings.Kind.{Kind}
 use Rattle.jq_resolver.specs.declared.bindings.Kind.TheVariants.{Function, Variable, Label}
@@ -24,3 +26,13 @@ reference_of n = referred n.0 n.1
 
 abbrev pub references : List (Kind × List ℕ) → Scope
 references = map reference_of
+
+-- ---- the binder of a name, as the number of binders outside of it
+
+-- This is the place of the innermost binder.
+abbrev pub IsBinder : Scope → Reference → ℕ → Type 0
+IsBinder s r i = (i < length s) × (binder s r ≡ bound_at (length s - suc i))
+
+-- This is the place of the outermost binder, which is the prelude's.
+abbrev pub IsPreludeBinder : Scope → Reference → ℕ → Type 0
+IsPreludeBinder s r i = (i < length s) × (prelude_binder s r ≡ bound_at (length s - suc i))
