@@ -40,8 +40,8 @@ abbrev pub cell_of : Vec Item Global → machine.Cell
 cell_of c = map item_of c.items
 
 -- a fork point with a choice in a scope, a cell and frames
-abbrev pub fork_at : List Env → Choice → Vec Item Global → Scope → List machine.Frame → machine.ForkPoint
-fork_at envs c cell p k = machine.fork (choice_in c (scope_in envs p)) (cell_of cell) k
+abbrev pub forked : List Env → Choice → Vec Item Global → Scope → List machine.Frame → machine.ForkPoint
+forked envs c cell p k = machine.fork (choice_in c (scope_in envs p)) (cell_of cell) k
 
 -- Computed from the environments and the continuations by index.
 abbrev pub fork_in : List Env → List (List machine.Frame) → Fork → machine.ForkPoint

@@ -53,7 +53,7 @@ impl<'p> State<'p> {
     ghost use Rattle.jq_state.specs.Links.{scope_in};
     ghost use Rattle.jq_state.specs.Nexts.{on_stack};
     ghost use Rattle.jq_state.specs.Steps.{step_in};
-    ghost use Rattle.jq_state.specs.Forks.{fork_at, last_frames, last_envs};
+    ghost use Rattle.jq_state.specs.Forks.{forked, last_frames, last_envs};
     ghost use Rattle.jq_state.specs.Views.{envs_in, frames_in, forks_in, needed_frames, needed_envs, newest_left, without_first, IsFirst, is_empty};
 
     /// A state in the program's own environments, with no frame and no fork point. Out of memory only if the program has 2^32 - 1
@@ -117,7 +117,7 @@ impl<'p> State<'p> {
         requires { scope.env < count_of self.old.nodes }
         ensures envs { self.new.nodes ≡ self.old.nodes }
         ensures frames { OnOk result ((inputs : Run Value) → frames_in inputs self.new ≡ frames_in inputs self.old) }
-        ensures forks { OnOk result ((inputs : Run Value) → forks_in inputs self.new ≡ fork_at (envs_in inputs self.old) choice.entry cell scope (frames_in inputs self.old) ∷ forks_in inputs self.old) }
+        ensures forks { OnOk result ((inputs : Run Value) → forks_in inputs self.new ≡ forked (envs_in inputs self.old) choice.entry cell scope (frames_in inputs self.old) ∷ forks_in inputs self.old) }
     {
         if self.forks.len() >= 4_294_967_294 {
             return Err(NoMemory);
@@ -138,7 +138,7 @@ impl<'p> State<'p> {
     pub fn go_back(&mut self) -> Option<Fork<'p>>
         ensures none { IfNone result ((inputs : Run Value) → forks_in inputs self.old ≡ []) }
         ensures scope { IfSome result (λ f. f.scope.env < count_of self.new.nodes) }
-        ensures forks { IfSome result (λ f. (inputs : Run Value) → forks_in inputs self.old ≡ fork_at (envs_in inputs self.new) f.choice f.cell f.scope (frames_in inputs self.new) ∷ forks_in inputs self.new) }
+        ensures forks { IfSome result (λ f. (inputs : Run Value) → forks_in inputs self.old ≡ forked (envs_in inputs self.new) f.choice f.cell f.scope (frames_in inputs self.new) ∷ forks_in inputs self.new) }
     {
         let Some(fork) = self.forks.pop() else {
             return None;
