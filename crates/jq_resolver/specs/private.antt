@@ -1,6 +1,7 @@
 -- What only contracts of private functions cite.
 pub mod Bindings
 pub mod BoundParts
+pub mod BoundForms
 pub mod Buckets
 pub mod Forms
 pub mod Resolved

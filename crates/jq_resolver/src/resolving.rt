@@ -2,8 +2,8 @@
 ghost use Rattle.std.specs.Prelude.{◌≡◌, true, OnOk};
 ghost use Rattle.jq_ast.specs.Named.{named};
 ghost use Rattle.jq_resolver.specs.private.Forms.{is_binder, is_pair};
-ghost use Rattle.jq_resolver.specs.private.Resolved.{Chain, IsDefinitionResolved, IsEntryResolved, IsPartResolved, IsPatternResolved, IsPieceResolved, IsResolved, AreTwoResolved};
-ghost use Rattle.jq_resolver.specs.private.Scopes.{bound_names};
+ghost use Rattle.jq_resolver.specs.private.Resolved.{Chain, IsDefinitionResolved, IsEntryResolved, IsPartResolved, IsPatternResolved, IsPieceResolved, IsResolved};
+ghost use Rattle.jq_resolver.specs.private.Scopes.{ResolvedIn, bound_names};
 
 use crate::bindings::Kind;
 use crate::referents::{
@@ -107,7 +107,7 @@ fn resolve_two(
     first: &mut Box<Tree>,
     second: &mut Box<Tree>,
 ) -> Result<(), NoMemory>
-    ensures { OnOk result (AreTwoResolved (bound_names scope.old) (bound_names scope.new) first.old.value first.new.value second.old.value second.new.value) }
+    ensures { OnOk result (ResolvedIn scope.old scope.new first.old.value first.new.value × ResolvedIn scope.old scope.new second.old.value second.new.value) }
 {
     resolve_tree(scope, first)?;
     resolve_tree(scope, second)?;
@@ -122,9 +122,8 @@ fn resolve_three(
     second: &mut Box<Tree>,
     third: &mut Box<Tree>,
 ) -> Result<(), NoMemory>
-    ensures { OnOk result (IsResolved (bound_names scope.old) (bound_names scope.new) first.old.value first.new.value
-        × IsResolved (bound_names scope.old) (bound_names scope.new) second.old.value second.new.value
-        × IsResolved (bound_names scope.old) (bound_names scope.new) third.old.value third.new.value) }
+    ensures { OnOk result (ResolvedIn scope.old scope.new first.old.value first.new.value × ResolvedIn scope.old scope.new second.old.value second.new.value
+        × ResolvedIn scope.old scope.new third.old.value third.new.value) }
 {
     resolve_tree(scope, first)?;
     resolve_tree(scope, second)?;
@@ -193,7 +192,7 @@ fn resolve_foreach(
     update: &mut Box<Tree>,
     extract: &mut Box<Tree>,
 ) -> Result<(), NoMemory>
-    ensures { OnOk result (IsResolved (bound_names scope.old) (bound_names scope.new)
+    ensures { OnOk result (ResolvedIn scope.old scope.new
         (Tree.Foreach source.old pattern.old start.old update.old extract.old)
         (Tree.Foreach source.new pattern.new start.new update.new extract.new)) }
 {

@@ -1,7 +1,8 @@
 // The names that a program uses, in the order of its text.
 ghost use Rattle.std.specs.Prelude.{◌≡◌, ◌∷◌, [], ◌+◌, ◌<◌, ◌++◌, ℕ, suc, List, true, IsTrue, IfOk, OnOk, IfSome, MatchOption, if◌then◌else◌, length, map};
 ghost use Rattle.jq_tree.specs.Binders.{Use, in_text_order, uses, uses_entries, uses_entry, uses_part, uses_parts, uses_pattern, uses_patterns, uses_pieces, uses_trees};
-ghost use Rattle.jq_ast.specs.Bound.{bound, bound_parts, bound_patterns, bound_trees, variables_in};
+ghost use Rattle.jq_ast.specs.Bound.{bound, bound_parts, bound_patterns, bound_trees};
+ghost use Rattle.jq_resolver.specs.private.BoundForms.{binding_uses, binding_visits, fold_uses, fold_visits};
 ghost use Rattle.jq_resolver.specs.private.BoundParts.{bound_as_part, bound_as_pattern};
 ghost use Rattle.jq_ast.specs.Named.{named};
 ghost use Rattle.jq_resolver.specs.Programs.{bound_program};
@@ -183,14 +184,8 @@ impl<'a> Uses<'a> {
         body: &'a Tree,
         around: usize,
     ) -> Result<(), NoMemory>
-        ensures uses { OnOk result (names_left self.new ≡
-            in_text_order (bound_as_pattern pattern.now around) (uses (bound source.now around))
-            (uses_pattern (bound_as_pattern pattern.now around) ++ uses (bound body.now (around + variables_in (bound_as_pattern pattern.now around))))
-            ++ names_left self.old) }
-        ensures visits { OnOk result (visits_left self.new <
-            suc (tree_visits (bound source.now around) + pattern_visits (bound_as_pattern pattern.now around)
-            + tree_visits (bound body.now (around + variables_in (bound_as_pattern pattern.now around))))
-            + visits_left self.old) }
+        ensures uses { OnOk result (names_left self.new ≡ binding_uses source.now pattern.now body.now around (names_left self.old)) }
+        ensures visits { OnOk result (visits_left self.new < suc (binding_visits source.now pattern.now body.now around) + visits_left self.old) }
     {
         let inside = inside_pattern(pattern, around)?;
         if is_unnamed(pattern) {
@@ -211,14 +206,8 @@ impl<'a> Uses<'a> {
         update: &'a Tree,
         around: usize,
     ) -> Result<(), NoMemory>
-        ensures uses { OnOk result (names_left self.new ≡
-            uses (bound source.now around) ++ uses_pattern (bound_as_pattern pattern.now around) ++ uses (bound start.now around)
-            ++ uses (bound update.now (around + variables_in (bound_as_pattern pattern.now around)))
-            ++ names_left self.old) }
-        ensures visits { OnOk result (visits_left self.new ≡
-            tree_visits (bound source.now around) + pattern_visits (bound_as_pattern pattern.now around) + tree_visits (bound start.now around)
-            + tree_visits (bound update.now (around + variables_in (bound_as_pattern pattern.now around)))
-            + visits_left self.old) }
+        ensures uses { OnOk result (names_left self.new ≡ fold_uses source.now pattern.now start.now update.now around (names_left self.old)) }
+        ensures visits { OnOk result (visits_left self.new ≡ fold_visits source.now pattern.now start.now update.now around + visits_left self.old) }
     {
         let inside = inside_pattern(pattern, around)?;
         self.push_tree(update, inside)?;

@@ -22,10 +22,6 @@ pub record IsResolved (s t : Scope) (old new : Tree) : Type 0 where
   pub names : named new ≡ named old
   pub binders : bound new (length s) ≡ bound_in s (named old)
 
--- the same for two trees, one after the other
-abbrev pub AreTwoResolved : (s t : Scope) → (old new : Tree) → (old_second new_second : Tree) → Type 0
-AreTwoResolved s t old new old_second new_second = IsResolved s t old new × IsResolved s t old_second new_second
-
 pub record IsPieceResolved (s t : Scope) (old new : Piece Tree) : Type 0 where
   pub before : text_of new.before ≡ text_of old.before
   pub tree : IsResolved s t old.tree new.tree
