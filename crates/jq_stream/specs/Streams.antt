@@ -6,6 +6,9 @@ use Rattle.jq_devices.specs.Reading.{IsWhole}
 use Rattle.jq_devices.specs.Watched.{device_of}
 use Rattle.jq_devices.specs.declared.watched.Watched.{Watched}
 use Rattle.jq_filters.specs.Outcomes.{Outcome, Mode, Job, stream_outcome}
+use Rattle.jq_filters.specs.Runner.{job_of, mode_of}
+use Rattle.jq_filters.specs.declared.runner.Runner.{Runner}
+use Rattle.jq_filters.specs.declared.settings.Settings.{Settings}
 
 -- the bytes on standard output and on standard error, if the writers' bytes are known
 pub record Outputs : Type 0 where
@@ -27,6 +30,12 @@ streams remaining output errors = record { remaining = remaining; outputs = outp
 abbrev pub streams_of : {R O E : Type 0} → (left : R → Option (List ℕ)) → (printed : O → Option (List ℕ)) → (reported : E → Option (List ℕ)) → Watched R → Watched O → Watched E → Streams
 streams_of left printed reported input output errors = streams (left (device_of input)) (printed (device_of output)) (reported (device_of errors))
 
+-- this relation holds between what a reader and two writers have before a call and after it
+abbrev pub OnStreams : {R O E : Type 0} → (left : R → Option (List ℕ)) → (printed : O → Option (List ℕ)) → (reported : E → Option (List ℕ)) → Watched R → Watched O → Watched E → Watched R → Watched O → Watched E
+    → (relation : (old new : Streams) → Type 0) → Type 0
+OnStreams left printed reported input_old output_old errors_old input_new output_new errors_new relation =
+    relation (streams_of left printed reported input_old output_old errors_old) (streams_of left printed reported input_new output_new errors_new)
+
 -- the bytes of this outcome were written
 pub record Writes (outcome : Outcome) (old new : Outputs) : Type 0 where
   pub output : Appends old.output new.output outcome.output
@@ -39,3 +48,7 @@ IsStreamRun mode job old new answer =
     × IsWhole input old.remaining
     × Writes (stream_outcome mode job (stream true input)) old.outputs new.outputs
     × (answer ≡ (stream_outcome mode job (stream true input)).status)
+
+-- the same for the outcome of this filter with these settings
+abbrev pub HasRun : Settings → Runner → ℕ → (old new : Streams) → Type 0
+HasRun settings runner answer old new = IsStreamRun (mode_of settings.mode) (job_of settings runner) old new answer
