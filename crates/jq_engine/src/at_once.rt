@@ -12,8 +12,9 @@ ghost use Rattle.jq_single.specs.Single.{Changes, Keeps};
 ghost use Rattle.jq_engine.specs.private.Leading.{GoesOn};
 
 use crate::guards::Guard;
-use crate::parts::begin;
+use crate::operators::{on_constant, operate};
 use crate::putting::hand_on;
+use crate::tails::begin;
 use jq_ast::Tree;
 use jq_backtracking::{Progress, raise};
 use jq_single::{Stop, apply};
@@ -59,7 +60,7 @@ pub(crate) fn run_at_once<'p>(
     }
 }
 
-// Runs a filter of at most one output at once on a value, whose place its output takes.
+/// Runs a filter of at most one output at once on a value, whose place its output takes.
 pub(crate) fn change(
     alloc: Global,
     nodes: &Nodes<'_>,
@@ -71,5 +72,8 @@ pub(crate) fn change(
     ensures runs { Changes nodes.now scope.env scope.depth (named tree.now) (view value.old) (view value.new) result }
     ensures keeps { Keeps result (view value.old) (view value.new) }
 {
+    if let Some((operator, constant)) = on_constant(tree) {
+        return operate(alloc, operator, constant, value);
+    }
     apply(alloc, nodes, tree, scope.env, scope.depth, value)
 }

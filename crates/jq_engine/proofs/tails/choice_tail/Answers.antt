@@ -1,5 +1,4 @@
 use Rattle.std.proofs.Common.{◌≡◌, ◌∷◌, sym, ap, subst}
-use Rattle.std.proofs.lemmas.Result.{IfOk-weaker}
 use Rattle.jv_data.specs.View.{view}
 use Rattle.jq_ast.specs.Named.{named}
 use Rattle.jq_tree.specs.Tree.{choice}
@@ -16,7 +15,7 @@ use Rattle.jq_state.specs.Views.{envs_in, frames_in, forks_in}
 use Rattle.jq_state.specs.declared.environments.Nodes.{Nodes}
 use Rattle.jq_engine.specs.private.Leading.{HasStopped, at_filter, gives, here, by_transition, by_run}
 use Rattle.jq_engine.proofs.Waiting.{value_alone}
-use Rattle.jq_engine.proofs.parts.begin_choice.Goals as goal
+use Rattle.jq_engine.proofs.tails.choice_tail.Goals as goal
 
 pub returns-in-Ok : goal.returns-in-Ok
 returns-in-Ok c =
@@ -29,16 +28,32 @@ returns-in-Ok c =
     let t = named c.args.condition.now in
     let f = named c.args.holds.now in
     let g = named c.args.fails.now in
-    let x = item_of c.args.input in
+    let x = item_of c.args.input.now in
     let v = view c.in_ok-value.value in
     let y = plain (view c.change.new.value) in
     let m : meaning q.depth t (env_at (envs_in inputs s) q.env) q.level (plain v) ≡ one y =
-    subst (λ (ns : Nodes). meaning q.depth t (env_at (envs_of inputs ns) q.env) q.level (plain v) ≡ one y) c.nodes.ensures (c.in-Ok.ensures.runs inputs q.level) in
-    record {
-      from = state (give y) (test f g p x ∷ k) fs;
-      advances = by_transition (ap (λ z. moves (state (evaluate t p z) (test f g p x ∷ k) fs)) (value_alone c.args.input v c.in_ok-value.ensures)) (by_run (gives y m) here);
-      steps = λ f. (c.requires, ap (λ b. moves (state (evaluate b p x) k fs)) (sym c.branch_for-branch.ensures));
-    }
+    subst (λ (ns : Nodes). meaning q.depth t (env_at (envs_of inputs ns) q.env) q.level (plain v) ≡ one y) c.nodes.ensures (c.in-Ok.ensures.runs inputs q.level) in (
+      c.requires,
+      record {
+        from = state (give y) (test f g p x ∷ k) fs;
+        advances = by_transition (ap (λ z. moves (state (evaluate t p z) (test f g p x ∷ k) fs)) (value_alone c.args.input.now v c.in_ok-value.ensures)) (by_run (gives y m) here);
+        steps = ap (λ b. moves (state (evaluate b p x) k fs)) (sym c.branch_for-branch.ensures);
+      },
+    )
+
+pub returns-then-not-tries_plain : goal.returns-then-not-tries_plain
+returns-then-not-tries_plain c =
+    let inputs = inputs_of c.args.inputs.now in
+    let s = c.args.state.now in
+    let q = c.args.scope in
+    let p = scope_in (envs_in inputs s) q in
+    let t = named c.args.condition.now in
+    let f = named c.args.holds.now in
+    let g = named c.args.fails.now in
+    let x = item_of c.args.input.now in
+    let same = value_alone c.args.input.now (view c.in_ok-value.value) c.in_ok-value.ensures ∙ sym c.plain.ensures in
+    let first = ap (λ z. moves (state (evaluate t p z) (test f g p x ∷ frames_in inputs s) (forks_in inputs s))) same in
+    c.in_ok-progress.ensures inputs (at_filter inputs s (choice t f g) q x) first
 
 pub returns : goal.returns
 returns c =
@@ -49,9 +64,9 @@ returns c =
     let t = named c.args.condition.now in
     let f = named c.args.holds.now in
     let g = named c.args.fails.now in
-    let x = item_of c.args.input in
+    let x = item_of c.args.input.now in
     let v = view c.in_ok-value.value in
     let stop = c.in-Err.stop in
     let h : HasStopped inputs s t q v stop = subst (λ (ns : Nodes). Ends stop (meaning q.depth t (env_at (envs_of inputs ns) q.env) q.level (plain v))) c.nodes.ensures (c.in-Err.ensures.runs inputs q.level) in
-    let first = ap (λ z. moves (state (evaluate t p z) (test f g p x ∷ frames_in inputs s) (forks_in inputs s))) (value_alone c.args.input v c.in_ok-value.ensures) in
-    IfOk-weaker c.stopped.result _ _ (λ r go. go (at_filter inputs s (choice t f g) q x) first) (c.stopped.ensures v h c.in-Err.ensures.keeps)
+    let first = ap (λ z. moves (state (evaluate t p z) (test f g p x ∷ frames_in inputs s) (forks_in inputs s))) (value_alone c.args.input.now v c.in_ok-value.ensures) in
+    c.in_ok-progress-in-Err.ensures v h c.in-Err.ensures.keeps (at_filter inputs s (choice t f g) q x) first

@@ -1,0 +1,23 @@
+-- Filters in tail position.
+use Rattle.std.proofs.Common.{◌≡◌, ◌∙◌, Result, IfOk, subst}
+use Rattle.std.proofs.lemmas.Result.{IfOk-weaker}
+use Rattle.jv_meaning.specs.Value.{Value}
+use Rattle.jq_tree.specs.Tree.{Name, no_trees, call}
+use Rattle.jq_meaning.specs.Env.{Env, with_arguments}
+use Rattle.jq_meaning.specs.Runs.{Run}
+use Rattle.jq_machine.specs.State as machine
+use Rattle.jq_state.specs.declared.items.Item.{Item}
+use Rattle.jq_state.specs.declared.states.State.{State}
+use Rattle.jq_engine.specs.declared.tails.Tail.{Tail}
+use Rattle.jq_engine.specs.declared.tails.Tail.TheVariants as tail
+use Rattle.jq_engine.specs.private.Leading.{Advances, here, by_transition, Leads}
+use Rattle.jq_engine.specs.private.Tails.{Arrives, Follows}
+use Rattle.jq_engine.proofs.Leading.{and_then}
+
+pub arrives_later : {before goal : machine.State} → Arrives before goal → Advances before goal
+arrives_later a = and_then a.advances (by_transition a.steps here)
+
+-- without arguments a body runs in its own environment
+pub with_none : (ps : List Name) (caller own : Env) → with_arguments ps no_trees caller own ≡ own
+with_none [] caller own = refl
+with_none (p ∷ ps) caller own = refl
