@@ -8,9 +8,6 @@ use Rattle.jq_devices.specs.declared.faults.StreamFault.{StreamFault}
 use Rattle.jq_devices.specs.declared.faults.StreamFault.TheVariants.{Read, Write, NoMemory}
 use Rattle.jq_filters.specs.Outcomes.{Outcome, Mode, on_each, Job, runs_in, first_halt, runs_printed, runs_reported, stream_outcome}
 use Rattle.jq_filters.specs.Present.{present}
-use Rattle.jq_filters.specs.Runner.{job_of, mode_of}
-use Rattle.jq_filters.specs.declared.runner.Runner.{Runner}
-use Rattle.jq_filters.specs.declared.settings.Settings.{Settings}
 use Rattle.jq_devices.specs.Reading.{IsWhole}
 use Rattle.jq_stream.specs.Streams.{Outputs, Streams, Writes}
 
@@ -50,10 +47,6 @@ abbrev pub IsStreamStopped : StreamFault → Mode → Job → (old new : Streams
 IsStreamStopped Read mode job old new = IsReadStopped mode job old new
 IsStreamStopped Write mode job old new = IsWriteStopped mode job old new
 IsStreamStopped NoMemory mode job old new = IsWriteStopped mode job old new
-
--- The same for this filter with these settings.
-abbrev pub HasStopped : StreamFault → Settings → Runner → (old new : Streams) → Type 0
-HasStopped fault settings runner old new = IsStreamStopped fault (mode_of settings.mode) (job_of settings runner) old new
 
 -- ---- one pass over the input
 

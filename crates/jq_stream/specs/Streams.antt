@@ -6,9 +6,6 @@ use Rattle.jq_devices.specs.Reading.{IsWhole}
 use Rattle.jq_devices.specs.Watched.{device_of}
 use Rattle.jq_devices.specs.declared.watched.Watched.{Watched}
 use Rattle.jq_filters.specs.Outcomes.{Outcome, Mode, Job, stream_outcome}
-use Rattle.jq_filters.specs.Runner.{job_of, mode_of}
-use Rattle.jq_filters.specs.declared.runner.Runner.{Runner}
-use Rattle.jq_filters.specs.declared.settings.Settings.{Settings}
 
 -- the bytes on standard output and on standard error, if the writers' bytes are known
 pub record Outputs : Type 0 where
@@ -48,7 +45,3 @@ IsStreamRun mode job old new answer =
     × IsWhole input old.remaining
     × Writes (stream_outcome mode job (stream true input)) old.outputs new.outputs
     × (answer ≡ (stream_outcome mode job (stream true input)).status)
-
--- the same for the outcome of this filter with these settings
-abbrev pub HasRun : Settings → Runner → ℕ → (old new : Streams) → Type 0
-HasRun settings runner answer old new = IsStreamRun (mode_of settings.mode) (job_of settings runner) old new answer

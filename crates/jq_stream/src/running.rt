@@ -9,9 +9,10 @@ ghost use Rattle.jq_devices.specs.declared.faults.StreamFault.TheVariants.{Read 
 ghost use Rattle.jq_filters.specs.Outcomes.{on_each, on_null, on_all};
 ghost use Rattle.jq_filters.specs.Runner.{job_of};
 ghost use Rattle.jq_filters.specs.Running.{run_on};
-ghost use Rattle.jq_stream.specs.Streams.{HasRun, OnStreams};
+ghost use Rattle.jq_stream.specs.Runs.{HasRun, HasStopped};
+ghost use Rattle.jq_stream.specs.Streams.{OnStreams};
 ghost use Rattle.jq_stream.specs.private.Outputs.{OnOutputs};
-ghost use Rattle.jq_stream.specs.Stopped.{HasStopped, IsOnePass, WritesFirst};
+ghost use Rattle.jq_stream.specs.Stopped.{IsOnePass, WritesFirst};
 ghost use Rattle.jq_stream.specs.Failures.{AnOutputHasFailed, output_failures};
 ghost use Rattle.jq_stream.specs.private.Blaming.{IsWriteBlamed};
 ghost use Rattle.jq_stream.specs.private.Gathering.{stop_ending};
