@@ -4,3 +4,4 @@ pub mod Leading
 pub mod Reaching
 pub mod Tails
 pub mod UpdateEnds
+pub mod Forms

@@ -6,10 +6,8 @@ ghost use Rattle.jq_meaning.specs.Runs.{plain};
 ghost use Rattle.jq_machine.specs.State as abstract;
 ghost use Rattle.jq_state.specs.Environments.{count_of};
 ghost use Rattle.jq_state.specs.Inputs.{inputs_of};
-ghost use Rattle.jq_state.specs.Links.{scope_in};
-ghost use Rattle.jq_state.specs.Views.{envs_in, frames_in, forks_in};
 ghost use Rattle.jq_single.specs.Single.{Changes, Keeps};
-ghost use Rattle.jq_engine.specs.private.Leading.{GoesOn};
+ghost use Rattle.jq_engine.specs.private.Leading.{GoesOn, at_filter};
 
 use crate::guards::Guard;
 use crate::operators::{on_constant, operate};
@@ -38,7 +36,7 @@ pub(crate) fn run_at_once<'p>(
     guard: &mut Guard,
 ) -> Result<Option<Progress<'p>>, NoMemory>
     requires { scope.env < count_of state.old.nodes }
-    ensures { IfOk result (GoesOn (inputs_of inputs.now) (abstract.state (abstract.evaluate (named tree.now) (scope_in (envs_in (inputs_of inputs.now) state.old) scope) (plain (view value))) (frames_in (inputs_of inputs.now) state.old) (forks_in (inputs_of inputs.now) state.old)) state.new) }
+    ensures { IfOk result (GoesOn (inputs_of inputs.now) (at_filter (inputs_of inputs.now) state.old (named tree.now) scope (plain (view value))) state.new) }
 {
     match change(alloc, state.nodes(), tree, scope, &mut value) {
         Ok(()) => {

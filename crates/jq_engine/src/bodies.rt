@@ -1,17 +1,13 @@
 // The bodies of functions without parameters, and of filters that were passed as arguments.
-ghost use Rattle.std.specs.Prelude.{◌≡◌, ◌<◌, List, IfSome};
-ghost use Rattle.jv_meaning.specs.Value.{Value};
+ghost use Rattle.std.specs.Prelude.{◌≡◌, ◌<◌, IfSome};
 ghost use Rattle.jq_ast.specs.Named.{name_of, named};
 ghost use Rattle.jq_tree.specs.Tree.{no_trees};
 ghost use Rattle.jq_tree.specs.Tree as form;
-ghost use Rattle.jq_meaning.specs.Env.{Env};
-ghost use Rattle.jq_meaning.specs.Runs.{Run};
 ghost use Rattle.jq_meaning.specs.Runs as runs;
 ghost use Rattle.jq_machine.specs.Evaluating as machine;
 ghost use Rattle.jq_machine.specs.State as abstract;
-ghost use Rattle.jq_state.specs.Environments.{count_of, envs_of};
-ghost use Rattle.jq_state.specs.Links.{scope_in};
-ghost use Rattle.jq_state.specs.Nodes.{env_at};
+ghost use Rattle.jq_state.specs.Environments.{count_of};
+ghost use Rattle.jq_engine.specs.private.Forms.{EntersIn, RunsBody};
 
 use jq_ast::{Name, Referent, Tree};
 use jq_operations::{Callee, find_callee};
@@ -27,8 +23,7 @@ pub(crate) fn called_body<'p>(
 ) -> Option<(&'p Tree, Scope)>
     requires { scope.env < count_of nodes.now }
     ensures within { IfSome result (λ r. r.1.env < count_of nodes.now) }
-    ensures body { IfSome result (λ r. (inputs : Run Value) (x : runs.Item) (k : List abstract.Frame) (fs : List abstract.ForkPoint) →
-        machine.enter (named tree.now) (scope_in (envs_of inputs nodes.now) scope) x k fs ≡ abstract.state (abstract.evaluate (named r.0.now) (scope_in (envs_of inputs nodes.now) r.1) x) k fs) }
+    ensures body { IfSome result (λ r. RunsBody nodes.now (named tree.now) scope r.0.now r.1) }
 {
     match tree {
         Tree::Call(name, arguments) if arguments.as_slice().is_empty() => {
@@ -43,8 +38,7 @@ pub(crate) fn called_body<'p>(
 fn body_of<'p>(nodes: &Nodes<'p>, name: &Name, scope: Scope) -> Option<(&'p Tree, Scope)>
     requires { scope.env < count_of nodes.now }
     ensures within { IfSome result (λ r. r.1.env < count_of nodes.now) }
-    ensures body { IfSome result (λ r. (inputs : Run Value) (x : runs.Item) (k : List abstract.Frame) (fs : List abstract.ForkPoint) →
-        machine.enter (form.call (name_of name.now) no_trees) (scope_in (envs_of inputs nodes.now) scope) x k fs ≡ abstract.state (abstract.evaluate (named r.0.now) (scope_in (envs_of inputs nodes.now) r.1) x) k fs) }
+    ensures body { IfSome result (λ r. RunsBody nodes.now (form.call (name_of name.now) no_trees) scope r.0.now r.1) }
 {
     if !is_defined(name) {
         return None;
@@ -66,8 +60,7 @@ fn body_of<'p>(nodes: &Nodes<'p>, name: &Name, scope: Scope) -> Option<(&'p Tree
 #[inline(always)]
 fn below(scope: Scope, env: u32) -> Option<Scope>
     ensures env { IfSome result (λ q. q.env ≡ env) }
-    ensures enters { IfSome result (λ q. (envs : List Env) (t : form.Tree) (x : runs.Item) (k : List abstract.Frame) (fs : List abstract.ForkPoint) →
-        machine.enter_body scope.depth t (env_at envs env) scope.level x k fs ≡ abstract.state (abstract.evaluate t (scope_in envs q) x) k fs) }
+    ensures enters { IfSome result (EntersIn scope env) }
 {
     if scope.depth == 0 {
         return None;

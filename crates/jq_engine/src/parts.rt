@@ -2,14 +2,14 @@
 ghost use Rattle.std.specs.Prelude.{◌<◌, IfOk};
 ghost use Rattle.jv_meaning.specs.Value.{Value};
 ghost use Rattle.jv_data.specs.View.{view};
-ghost use Rattle.jq_ast.specs.Named.{named, named_as_pattern};
+ghost use Rattle.jq_ast.specs.Named.{named};
 ghost use Rattle.jq_tree.specs.Tree as form;
 ghost use Rattle.jq_meaning.specs.Runs.{Run, plain};
-ghost use Rattle.jq_single.specs.Single.{Leaves};
 ghost use Rattle.jq_state.specs.Environments.{count_of};
 ghost use Rattle.jq_state.specs.Inputs.{inputs_of};
 ghost use Rattle.jq_state.specs.Items.{item_of};
-ghost use Rattle.jq_engine.specs.private.Leading.{HasStopped, Leads, LeadsAfter, at_filter, at_part};
+ghost use Rattle.jq_engine.specs.private.Forms.{bound_as};
+ghost use Rattle.jq_engine.specs.private.Leading.{GoesOnAfter, Leads, LeadsAfter, at_filter, at_part};
 
 use crate::at_once::change;
 use crate::guards::Guard;
@@ -40,7 +40,7 @@ pub(crate) fn begin_binding<'p>(
     guard: &mut Guard,
 ) -> Result<Progress<'p>, NoMemory>
     requires { scope.env < count_of state.old.nodes }
-    ensures { IfOk result (Leads (inputs_of inputs.now) (at_filter (inputs_of inputs.now) state.old (form.bind_as (named source.now) (named_as_pattern pattern.now) (named body.now)) scope (item_of input)) state.new) }
+    ensures { IfOk result (Leads (inputs_of inputs.now) (at_filter (inputs_of inputs.now) state.old (bound_as source.now pattern.now body.now) scope (item_of input)) state.new) }
 {
     let value = input.value.copy()?;
     let binding = Binding::Source(pattern, Binder::Body(body, input));
@@ -105,7 +105,7 @@ pub(crate) fn stopped<'p>(
     guard: &mut Guard,
 ) -> Result<Progress<'p>, NoMemory>
     requires { scope.env < count_of state.old.nodes }
-    ensures { (v : Value) → HasStopped (inputs_of inputs.now) state.old (named part.now) scope v stop → Leaves stop v (view value) → IfOk result (LeadsAfter (inputs_of inputs.now) (at_part (inputs_of inputs.now) state.old (named part.now) step.entry scope (plain v)) state.new) }
+    ensures { GoesOnAfter (inputs_of inputs.now) state.old state.new (named part.now) step.entry scope stop (view value) result }
 {
     state.push(step, scope)?;
     match stop {

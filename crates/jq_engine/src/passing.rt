@@ -9,8 +9,8 @@ ghost use Rattle.jq_state.specs.Inputs.{inputs_of};
 ghost use Rattle.jq_state.specs.Items.{item_of};
 ghost use Rattle.jq_state.specs.Links.{scope_in};
 ghost use Rattle.jq_state.specs.Steps.{step_in};
-ghost use Rattle.jq_state.specs.Views.{envs_in, frames_in, forks_in, without_first};
-ghost use Rattle.jq_engine.specs.private.Leading.{GoesOn, Leads};
+ghost use Rattle.jq_state.specs.Views.{envs_in, frames_in, forks_in, IsFirst};
+ghost use Rattle.jq_engine.specs.private.Leading.{GoesOn, Leads, at_filter, at_item};
 
 use crate::at_once::run_at_once;
 use crate::folds::{run_step, top_step};
@@ -39,7 +39,7 @@ fn pass<'p>(
     inputs: &Inputs,
     guard: &mut Guard,
 ) -> Result<Option<Progress<'p>>, NoMemory>
-    ensures { IfOk result (GoesOn (inputs_of inputs.now) (abstract.state (abstract.give (item_of item)) (frames_in (inputs_of inputs.now) state.old) (forks_in (inputs_of inputs.now) state.old)) state.new) }
+    ensures { IfOk result (GoesOn (inputs_of inputs.now) (at_item (inputs_of inputs.now) state.old (item_of item)) state.new) }
 {
     if let Some((tree, scope)) = top_pipe(state) {
         state.skip();
@@ -58,7 +58,7 @@ fn pass<'p>(
 #[inline(always)]
 fn top_pipe<'p>(state: &State<'p>) -> Option<(&'p Tree, Scope)>
     ensures scope { IfSome result (λ r. r.1.env < count_of state.now.nodes) }
-    ensures frames { IfSome result (λ r. (inputs : Run Value) → frames_in inputs state.now ≡ abstract.pipe_into (named r.0.now) (scope_in (envs_in inputs state.now) r.1) ∷ without_first (frames_in inputs state.now)) }
+    ensures frames { IfSome result (λ r. (inputs : Run Value) → IsFirst (abstract.pipe_into (named r.0.now) (scope_in (envs_in inputs state.now) r.1)) (frames_in inputs state.now)) }
 {
     let Some((step, scope)) = state.top() else {
         return None;
@@ -80,7 +80,7 @@ fn evaluate<'p>(
     guard: &mut Guard,
 ) -> Result<Option<Progress<'p>>, NoMemory>
     requires { scope.env < count_of state.old.nodes }
-    ensures { IfOk result (GoesOn (inputs_of inputs.now) (abstract.state (abstract.evaluate (named tree.now) (scope_in (envs_in (inputs_of inputs.now) state.old) scope) (item_of input)) (frames_in (inputs_of inputs.now) state.old) (forks_in (inputs_of inputs.now) state.old)) state.new) }
+    ensures { IfOk result (GoesOn (inputs_of inputs.now) (at_filter (inputs_of inputs.now) state.old (named tree.now) scope (item_of input)) state.new) }
 {
     if guard.tries(tree, &input) {
         return run_at_once(alloc, state, tree, scope, input.value, inputs, guard);

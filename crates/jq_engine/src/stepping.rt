@@ -5,8 +5,7 @@ ghost use Rattle.jq_state.specs.Inputs.{inputs_of};
 ghost use Rattle.jq_machine.specs.State as abstract;
 ghost use Rattle.jq_state.specs.Items.{item_of};
 ghost use Rattle.jq_state.specs.Nexts.{NextFits, stands};
-ghost use Rattle.jq_state.specs.Views.{frames_in, forks_in};
-ghost use Rattle.jq_engine.specs.private.Leading.{Leads};
+ghost use Rattle.jq_engine.specs.private.Leading.{Leads, at_item};
 
 use crate::folds::{run_step, top_step};
 use crate::guards::Guard;
@@ -62,7 +61,7 @@ fn deliver<'p>(
     inputs: &Inputs,
     guard: &mut Guard,
 ) -> Result<Progress<'p>, NoMemory>
-    ensures { IfOk result (Leads (inputs_of inputs.now) (abstract.state (abstract.give (item_of item)) (frames_in (inputs_of inputs.now) state.old) (forks_in (inputs_of inputs.now) state.old)) state.new) }
+    ensures { IfOk result (Leads (inputs_of inputs.now) (at_item (inputs_of inputs.now) state.old (item_of item)) state.new) }
 {
     if let Some((step, scope)) = top_step(state) {
         state.skip();

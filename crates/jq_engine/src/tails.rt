@@ -9,6 +9,7 @@ ghost use Rattle.jq_natives.specs.Answers.{is_true};
 ghost use Rattle.jq_state.specs.Environments.{count_of};
 ghost use Rattle.jq_state.specs.Inputs.{inputs_of};
 ghost use Rattle.jq_state.specs.Items.{item_of};
+ghost use Rattle.jq_engine.specs.private.Forms.{chosen};
 ghost use Rattle.jq_engine.specs.private.Leading.{Leads, at_filter};
 ghost use Rattle.jq_engine.specs.private.Tails.{Follows};
 
@@ -263,7 +264,7 @@ fn choice_tail<'p>(
     guard: &mut Guard,
 ) -> Result<Tail<'p>, NoMemory>
     requires { scope.env < count_of state.old.nodes }
-    ensures { IfOk result (Follows (inputs_of inputs.now) (at_filter (inputs_of inputs.now) state.old (form.choice (named condition.now) (named holds.now) (named fails.now)) scope (item_of input.old)) state.new input.new) }
+    ensures { IfOk result (Follows (inputs_of inputs.now) (at_filter (inputs_of inputs.now) state.old (chosen condition.now holds.now fails.now) scope (item_of input.old)) state.new input.new) }
 {
     let mut value = input.value.copy()?;
     if !guard.tries_plain(condition) {
