@@ -12,6 +12,9 @@ use Rattle.jq_single.proofs.contexts.Context.+single.Given as goal
 abbrev pub decreases-get : goal.decreases-get
 decreases-get l = 16 * l.self.now.fuel
 
+abbrev pub decreases-get_part : goal.decreases-get_part
+decreases-get_part l = 16 * l.self.now.fuel + 1
+
 abbrev pub decreases-get_form : goal.decreases-get_form
 decreases-get_form l = 16 * l.self.now.fuel + 14
 
