@@ -5,6 +5,7 @@ pub mod Gathered
 pub mod Folded
 pub mod Located
 pub mod Views
+pub mod FirstOutputs
 pub mod TurnForms
 pub mod TurnRuns
 pub mod Outcomes

@@ -19,6 +19,7 @@ use Rattle.jq_meaning.specs.Runs.{plain, none, one, fail}
 use Rattle.jq_single.specs.Single.{Changed}
 use Rattle.jq_single.specs.declared.stops.Stop.{Stop}
 use Rattle.jq_single.specs.declared.stops.Stop.TheVariants as stop
+use Rattle.jq_single.specs.private.FirstOutputs.{first_alone}
 use Rattle.jq_single.specs.private.States.{IsState, first_of, second_of, state}
 use Rattle.jq_shapes.specs.Turn.{turn}
 use Rattle.jq_single.specs.private.UpdateTurns.{PutsFirst, PutsSecond, turned}
@@ -41,7 +42,7 @@ module _ (depth k : ℕ) (e : Env) (p : Value) (body : Tree) (own : Env) (v part
   unfolding turned
   on_state = ap (λ z. meaning depth turn e k (plain z)) is
 
-  pub put_turn : {A : Type 0} (a : Result A Stop) (w later : Value) → below depth body own (suc k) (plain part) ≡ one (plain w) → PutsFirst a (setpath_native_of (first_of v) p w) (second_of v) later
+  pub put_turn : {A : Type 0} (a : Result A Stop) (w later : Value) → first_alone (below depth body own (suc k) (plain part)) ≡ one (plain w) → PutsFirst a (setpath_native_of (first_of v) p w) (second_of v) later
       → Changed a later (turned depth e k v)
   put_turn (Ok done) w later h i =
       on_state ∙ part_replaced (below depth) e k (first_of v) (second_of v) p part w (first_of later) body own around got h i.0 ∙ ap (λ z. one (plain z)) (sym i.1)
@@ -50,7 +51,7 @@ module _ (depth k : ℕ) (e : Env) (p : Value) (body : Tree) (own : Env) (v part
   put_turn (Err stop.NoMemory) w later h i = tt
   put_turn (Err stop.Unknown) w later h i = absurd i
 
-  pub keep_turn : {A : Type 0} (a : Result A Stop) (later : Value) → below depth body own (suc k) (plain part) ≡ none → PutsSecond a (add_of (second_of v) (array (items_of (p ∷ [])))) (first_of v) later
+  pub keep_turn : {A : Type 0} (a : Result A Stop) (later : Value) → first_alone (below depth body own (suc k) (plain part)) ≡ none → PutsSecond a (add_of (second_of v) (array (items_of (p ∷ [])))) (first_of v) later
       → Changed a later (turned depth e k v)
   keep_turn (Ok done) later h i =
       on_state ∙ path_kept (below depth) e k (first_of v) (second_of v) p part (second_of later) body own around got h i.0 ∙ ap (λ z. one (plain z)) (sym i.1)
@@ -59,6 +60,6 @@ module _ (depth k : ℕ) (e : Env) (p : Value) (body : Tree) (own : Env) (v part
   keep_turn (Err stop.NoMemory) later h i = tt
   keep_turn (Err stop.Unknown) later h i = absurd i
 
-  pub raising_turn : (A : Type 0) (err : Val) (later : Value) → below depth body own (suc k) (plain part) ≡ fail (view err)
+  pub raising_turn : (A : Type 0) (err : Val) (later : Value) → first_alone (below depth body own (suc k) (plain part)) ≡ fail (view err)
       → Changed {A = A} (Err (stop.Raised err)) later (turned depth e k v)
   raising_turn A err later h = on_state ∙ filter_raises (below depth) e k (first_of v) (second_of v) p part (view err) body own around got h

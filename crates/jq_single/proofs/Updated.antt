@@ -12,6 +12,7 @@ use Rattle.jq_meaning.specs.Folds.{next_state, reduced}
 use Rattle.jq_meaning.specs.Meaning.{Means, meaning_with, arguments_with, bindings_with}
 use Rattle.jq_meaning.specs.Runs.{Item, plain, value_in, Run, none, one, fail, bind, gathered, answered}
 use Rattle.jq_single.specs.private.Around.{Around}
+use Rattle.jq_single.specs.private.FirstOutputs.{first_alone}
 use Rattle.jq_single.specs.private.States.{state}
 use Rattle.jq_shapes.specs.Turn.{start, turn, remove_paths, removal, finish}
 use Rattle.jq_single.proofs.Folded.{single_fold}
@@ -59,7 +60,7 @@ module _ (deeper : Means) (e f : Env) (k : ℕ) (v p part : Value) (body : Tree)
   fail-end : (err : Value) (r : Run Item) → r ≡ fail err → bind (next_state (plain (state v (array (items_of [])))) r one) (meaning_with deeper finish f k) ≡ fail err
   fail-end err r h = ap (λ (q : Run Item). bind (next_state (plain (state v (array (items_of [])))) q one) (meaning_with deeper finish f k)) h
 
-  put-by : (w : Value) (a : Answer) → setpath_native_of v p w ≡ a → deeper body own (suc k) (plain part) ≡ one (plain w)
+  put-by : (w : Value) (a : Answer) → setpath_native_of v p w ≡ a → first_alone (deeper body own (suc k) (plain part)) ≡ one (plain w)
       → bind (next_state (plain (state v (array (items_of [])))) (meaning_with deeper turn e k (plain (state v (array (items_of []))))) one) (meaning_with deeper finish f k)
       ≡ bind (answered plain a) (λ x. answered plain (delpaths_native_of (value_in x) (array (items_of []))))
   put-by w (Ok y) h i =
@@ -68,18 +69,18 @@ module _ (deeper : Means) (e f : Env) (k : ℕ) (v p part : Value) (body : Tree)
   put-by w (Err err) h i =
       fail-end err (meaning_with deeper turn e k (plain (state v (array (items_of []))))) (replacing_refused deeper e k v (array (items_of [])) p part w err body own around got i h)
 
-  pub put_once : (w : Value) → deeper body own (suc k) (plain part) ≡ one (plain w)
+  pub put_once : (w : Value) → first_alone (deeper body own (suc k) (plain part)) ≡ one (plain w)
       → bind (next_state (plain (state v (array (items_of [])))) (meaning_with deeper turn e k (plain (state v (array (items_of []))))) one) (meaning_with deeper finish f k)
       ≡ bind (answered plain (setpath_native_of v p w)) (λ x. answered plain (delpaths_native_of (value_in x) (array (items_of []))))
   put_once w i = put-by w (setpath_native_of v p w) refl i
 
-  pub delete_once : deeper body own (suc k) (plain part) ≡ none
+  pub delete_once : first_alone (deeper body own (suc k) (plain part)) ≡ none
       → bind (next_state (plain (state v (array (items_of [])))) (meaning_with deeper turn e k (plain (state v (array (items_of []))))) one) (meaning_with deeper finish f k)
       ≡ answered plain (delpaths_native_of v (array (items_of (p ∷ []))))
   delete_once i =
       one-end v (array (items_of (p ∷ []))) (meaning_with deeper turn e k (plain (state v (array (items_of []))))) (path_kept deeper e k v (array (items_of [])) p part (array (items_of (p ∷ []))) body own around got i refl)
 
-  pub raise_once : (err : Value) → deeper body own (suc k) (plain part) ≡ fail err
+  pub raise_once : (err : Value) → first_alone (deeper body own (suc k) (plain part)) ≡ fail err
       → bind (next_state (plain (state v (array (items_of [])))) (meaning_with deeper turn e k (plain (state v (array (items_of []))))) one) (meaning_with deeper finish f k) ≡ fail err
   raise_once err i =
       fail-end err (meaning_with deeper turn e k (plain (state v (array (items_of []))))) (filter_raises deeper e k v (array (items_of [])) p part err body own around got i)

@@ -2,6 +2,7 @@
 pub mod Scopes
 pub mod Finds
 pub mod Parts
+pub mod FirstOutputs
 pub mod Natives
 pub mod Making
 pub mod Gathering

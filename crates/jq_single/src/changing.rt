@@ -148,7 +148,7 @@ impl<'s> Context<'s> {
         ensures runs { ChangesTo self.now (form.binary (operator_of operator) (named left.now) (named right.now)) (view value.old) (view value.new) result }
         ensures keeps { Keeps result (view value.old) (view value.new) }
     {
-        let second = self.get(right, value)?;
+        let second = self.get_part(right, value)?;
         match self.change(left, value) {
             Ok(()) => operate_in_place(self.alloc, operator, value, &second),
             Err(stop) => Err(stop),

@@ -40,8 +40,8 @@ impl<'s> Context<'s> {
     ) -> Result<Val, Stop>
         ensures { RunsTo self.now (form.binary (operator_of operator) (named left.now) (named right.now)) (view value.now) result }
     {
-        let second = self.get(right, value)?;
-        let first = self.get(left, value)?;
+        let second = self.get_part(right, value)?;
+        let first = self.get_part(left, value)?;
         operate(self.alloc, operator, first, &second)
     }
 

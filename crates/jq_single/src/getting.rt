@@ -29,6 +29,19 @@ impl<'s> Context<'s> {
         inside.get_form(tree, value)
     }
 
+    /// The same for a part that is often the input or a constant.
+    #[cycle(single)]
+    #[inline(always)]
+    pub(crate) fn get_part(&self, tree: &'s Tree, value: &Val) -> Result<Val, Stop>
+        ensures { RunsTo self.now (named tree.now) (view value.now) result }
+    {
+        match tree {
+            Tree::Identity => Ok(value.copy()?),
+            Tree::Literal(constant) => Ok(literal(constant)?),
+            _ => self.get(tree, value),
+        }
+    }
+
     // The same, with the fuel for the parts.
     #[cycle(single)]
     #[inline(always)]

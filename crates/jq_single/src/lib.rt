@@ -9,6 +9,7 @@ mod choosing;
 mod combining;
 mod contexts;
 mod finding;
+mod first_outputs;
 mod folding;
 mod gathering;
 mod getting;

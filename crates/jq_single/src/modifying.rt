@@ -91,7 +91,7 @@ impl<'s> Context<'s> {
         }
     }
 
-    // The part at a path becomes the output of the filter that was passed. Without output it is deleted.
+    // The part at a path becomes the first output of the filter that was passed. Without output it is deleted.
     #[cycle(single)]
     fn change_part(
         &self,
@@ -107,7 +107,7 @@ impl<'s> Context<'s> {
             return Err(Stop::Unknown);
         };
         match part_under(self.alloc, value, keys.as_slice()) {
-            Some(mut part) => match self.change_body(body, own, &mut part) {
+            Some(mut part) => match self.change_to_first(body, own, &mut part) {
                 Ok(()) => put_at(self.alloc, value, path, part),
                 Err(Stop::Nothing) => delete_at(self.alloc, value, path),
                 Err(Stop::Raised(error)) => Err(Stop::Raised(error)),

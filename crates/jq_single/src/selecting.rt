@@ -28,7 +28,7 @@ impl<'s> Context<'s> {
     ) -> Result<Val, Stop>
         ensures { RunsTo self.now (form.field (named target.now) (key_of key.now) guarded) (view value.now) result }
     {
-        let found = self.get(target, value)?;
+        let found = self.get_part(target, value)?;
         part_at(self.alloc, guarded, &found, key.value())
     }
 
@@ -44,8 +44,8 @@ impl<'s> Context<'s> {
     ) -> Result<Val, Stop>
         ensures { RunsTo self.now (form.index (named target.now) (named key.now) guarded) (view value.now) result }
     {
-        let at = self.get(key, value)?;
-        let found = self.get(target, value)?;
+        let at = self.get_part(key, value)?;
+        let found = self.get_part(target, value)?;
         part_at(self.alloc, guarded, &found, &at)
     }
 

@@ -52,7 +52,7 @@ impl<'s> Context<'s> {
         }
     }
 
-    // A turn at a path with the filter that was passed.
+    // A turn at a path with the filter that was passed, whose first output is put there.
     #[cycle(single)]
     fn run_turn(
         &self,
@@ -69,7 +69,7 @@ impl<'s> Context<'s> {
         };
         let keys = keys.as_slice();
         match part_in(self.alloc, value, keys) {
-            Some(mut part) => match self.change_body(body, own, &mut part) {
+            Some(mut part) => match self.change_to_first(body, own, &mut part) {
                 Ok(()) => put_part(self.alloc, value, keys, part),
                 Err(Stop::Nothing) => keep_path(self.alloc, value, path.copy()?),
                 Err(Stop::Raised(error)) => Err(Stop::Raised(error)),

@@ -39,12 +39,14 @@ use Rattle.jq_single.specs.private.States.{first_of, second_of}
 use Rattle.jq_shapes.specs.Turn as shape
 use Rattle.jq_single.specs.private.UpdateTurns.{PutsFirst, PutsSecond}
 use Rattle.jq_single.specs.private.UpdateTurns as updates
+use Rattle.jq_single.specs.private.FirstOutputs.{first_alone}
 use Rattle.jq_single.specs.private.Parts.{Answers, builtin_in, run}
 use Rattle.jq_single.specs.Single.{Changed, Ends}
 use Rattle.jq_single.proofs.Binding.{bind-known, ends-bind, ends-after, answers-bind, changed-bind, changed_holds, changed_fails, changed-stops, goes-changed, keeps-stops, leaves_same, stops, untold, and_goes, and_stops, or_goes, or_stops, truth_of, test_holds, test_fails, caught, with_variable, text-bind, text-stops}
 use Rattle.jq_single.specs.declared.rests.Rest.{Rest}
 use Rattle.jq_single.proofs.Gathered.{gathers-none, gathers-then, gathers-fail, gathers_all, gives_first, stops_first, stops-then, gathered_list, ends_gathered, bound_rest, picks_holds, picks_fails}
 use Rattle.jq_single.proofs.Folded.{fold_value, turned, fold_ends, single_fold}
+use Rattle.jq_single.proofs.FirstOutputs.{answers-first, changed-first, first-then}
 use Rattle.jq_single.proofs.Outcomes.{getpath_keys, setpath_keys, put_turn, keep_turn, raising_turn}
 use Rattle.jq_single.proofs.Updated.{finish-run, update_once, put_once, delete_once, raise_once}
 use Rattle.jq_single.proofs.Located.{path_given, path_of_builtin, paths-rest}
@@ -1085,6 +1087,46 @@ turn-returns-in-Err t c = λ inputs level.
     turned {A = Unit {0}} (Err c.in-Err.stop) goes x c.args.states.now.items []
     (λ go. subst (λ (z : Item). Ends c.in-Err.stop (next_state z (goes x z) go)) (sym c.in-Some.ensures) (c.in-Err.ensures.runs inputs level go))
 
+-- ---- the first output
+
+pub change_to_first-returns-clause-runs : goal.change_to_first-returns-clause-runs
+change_to_first-returns-clause-runs t c = λ inputs level.
+    let depth = c.args.self.now.depth in
+    subst (λ (r : Run Item). Changed c.change_first.result (view c.change_first.new.value) (first_alone r))
+    (body_runs (scope_env inputs c.args.own.now) depth (depth - 1) level (named c.args.body.now) (plain (view c.args.value.now)) (omega arith))
+    (c.change_first.ensures.runs inputs level)
+
+pub change_first-returns-clause-runs : goal.change_first-returns-clause-runs
+change_first-returns-clause-runs t c = λ inputs level.
+    changed-first c.change.result (view c.change.new.value) (run c.args.self.now inputs level (named c.args.tree.now) (plain (view c.args.value.now))) (c.change.ensures.runs inputs level)
+
+pub change_first-returns-in-Err-clause-keeps : goal.change_first-returns-in-Err-clause-keeps
+change_first-returns-in-Err-clause-keeps t c = leaves_same c.in-Err.stop (view c.args.value.now)
+
+pub get_first-returns : goal.get_first-returns
+get_first-returns t c = λ inputs level.
+    answers-first c.get.result (run c.args.self.now inputs level (named c.args.tree.now) (plain (view c.args.value.now))) (c.get.ensures inputs level)
+
+pub first_of_two-returns-in-Ok : goal.first_of_two-returns-in-Ok
+first_of_two-returns-in-Ok t c = λ inputs level.
+    let v = plain (view c.args.value.now) in
+    let go : Tree → Run Item = λ u. run c.args.self.now inputs level u v in
+    first-then (go (named c.args.left.now)) (go (named c.args.right.now)) (one (plain (view c.in-Ok.output))) (c.in-Ok.ensures inputs level)
+
+pub first_of_two-returns-in-Err-Nothing : goal.first_of_two-returns-in-Err-Nothing
+first_of_two-returns-in-Err-Nothing t c = λ inputs level.
+    let v = plain (view c.args.value.now) in
+    let go : Tree → Run Item = λ u. run c.args.self.now inputs level u v in
+    subst (Answers c.get_first-in-Err-Nothing.result)
+    (sym (first-then (go (named c.args.left.now)) (go (named c.args.right.now)) none ((rw c.in-Err-Nothing.field-0-is at c.in-Err-Nothing.ensures) inputs level)))
+    (c.get_first-in-Err-Nothing.ensures inputs level)
+
+pub first_of_two-returns-in-Err-Raised : goal.first_of_two-returns-in-Err-Raised
+first_of_two-returns-in-Err-Raised t c = λ inputs level.
+    let v = plain (view c.args.value.now) in
+    let go : Tree → Run Item = λ u. run c.args.self.now inputs level u v in
+    first-then (go (named c.args.left.now)) (go (named c.args.right.now)) (fail (view c.in-Err-Raised.error)) ((rw c.in-Err-Raised.field-0-is at c.in-Err-Raised.ensures) inputs level)
+
 -- ---- updates
 
 pub change_turn-returns-in-Some-clause-runs : goal.change_turn-returns-in-Some-clause-runs
@@ -1097,7 +1139,7 @@ pub run_turn-returns-in-Ok-clause-runs : goal.run_turn-returns-in-Ok-clause-runs
 run_turn-returns-in-Ok-clause-runs t c = λ inputs e k around.
     let v = view c.args.value.now in
     let own = scope_env inputs c.args.own.now in
-    let w = view c.change_body.new.value in
+    let w = view c.change_to_first.new.value in
     let a = c.put_part.result in
     let later = view c.put_part.new.held in
     let got : getpath_native_of (first_of v) (view c.args.path.now) ≡ Ok (view c.in-Some.part) =
@@ -1188,7 +1230,7 @@ change_part-returns-in-Ok-clause-runs t c = λ inputs e f k around free.
     let path = view c.args.path.now in
     let depth = c.args.self.now.depth in
     let own = scope_env inputs c.args.own.now in
-    let w = view c.change_body.new.value in
+    let w = view c.change_to_first.new.value in
     let got : getpath_native_of v path ≡ Ok (view c.in-Some.part) =
     getpath_keys v c.args.path.now c.in-List.keys c.as_slice.result.now c.in-List.is c.as_slice.ensures ∙ c.in-Some.ensures in
     subst (Changed c.put_at.result (view c.put_at.new.value))

@@ -12,6 +12,9 @@ use Rattle.jq_single.proofs.contexts.Context.+single.Given as goal
 abbrev pub decreases-get : goal.decreases-get
 decreases-get l = 16 * l.self.now.fuel
 
+abbrev pub decreases-get_part : goal.decreases-get_part
+decreases-get_part l = 16 * l.self.now.fuel + 1
+
 abbrev pub decreases-get_form : goal.decreases-get_form
 decreases-get_form l = 16 * l.self.now.fuel + 14
 
@@ -188,6 +191,18 @@ decreases-change_by_names l = 16 * l.self.now.fuel + 7
 
 abbrev pub decreases-run_turn : goal.decreases-run_turn
 decreases-run_turn l = 16 * l.self.now.fuel + 6
+
+abbrev pub decreases-change_to_first : goal.decreases-change_to_first
+decreases-change_to_first l = 16 * l.self.now.fuel + 5
+
+abbrev pub decreases-change_first : goal.decreases-change_first
+decreases-change_first l = 16 * l.self.now.fuel + 4
+
+abbrev pub decreases-get_first : goal.decreases-get_first
+decreases-get_first l = 16 * l.self.now.fuel + 3
+
+abbrev pub decreases-first_of_two : goal.decreases-first_of_two
+decreases-first_of_two l = 16 * l.self.now.fuel + 2
 
 abbrev pub decreases-gather : goal.decreases-gather
 decreases-gather l = 16 * l.self.now.fuel
