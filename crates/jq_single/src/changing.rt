@@ -1,11 +1,11 @@
 // A filter whose output replaces its input.
-ghost use Rattle.std.specs.Prelude.{◌<◌, map};
-ghost use Rattle.jv_meaning.specs.Text.{text_of};
+ghost use Rattle.std.specs.Prelude.{◌<◌};
 ghost use Rattle.jv_data.specs.View.{view};
 ghost use Rattle.jq_ast.specs.Leaves.{operator_of};
 ghost use Rattle.jq_ast.specs.Named.{named, named_as_pattern};
 ghost use Rattle.jq_tree.specs.Tree as form;
 ghost use Rattle.jq_state.specs.Environments.{count_of};
+ghost use Rattle.jq_operations.specs.Entering.{defined};
 ghost use Rattle.jq_single.specs.Single.{Changes, Keeps};
 ghost use Rattle.jq_single.specs.private.Parts.{ChangesTo};
 
@@ -185,7 +185,7 @@ impl<'s> Context<'s> {
         rest: &'s Tree,
         value: &mut Val,
     ) -> Result<(), Stop>
-        ensures runs { ChangesTo self.now (form.define (text_of function.now.name) (map text_of function.now.parameters.items) (named function.now.body) (named rest.now)) (view value.old) (view value.new) result }
+        ensures runs { ChangesTo self.now (defined function.now (named rest.now)) (view value.old) (view value.new) result }
         ensures keeps { Keeps result (view value.old) (view value.new) }
     {
         let scope = Scope::Function(&*self.scope, &*function);

@@ -7,7 +7,7 @@ ghost use Rattle.jq_meaning.specs.Env as meaning;
 ghost use Rattle.jq_meaning.specs.Runs.{Run};
 ghost use Rattle.jq_state.specs.Environments.{count_of, envs_of};
 ghost use Rattle.jq_single.specs.private.Scopes.{scope_env};
-ghost use Rattle.jq_single.specs.private.Finds.{FindsBound, found_in};
+ghost use Rattle.jq_single.specs.private.Finds.{FindsBound, FindsInPrelude, found_in};
 ghost use Rattle.jq_operations.specs.Callees.{CalleeFits, callee_in};
 
 use crate::scopes::{Outside, Scope};
@@ -83,7 +83,7 @@ fn argument_of<'s>(
 /// The prelude's own function with this name and this number of arguments, whatever is defined later. If a scope outside of the run's
 /// environment would have to define it, nothing is found.
 pub(crate) fn prelude_of<'s>(scope: &Scope<'s>, name: &Name, count: usize) -> Found<'s>
-    ensures { (inputs : Run Value) → meaning.callee_or (found_in inputs result) (meaning.find_in_prelude (name_of name.now) count (scope_env inputs scope.now)) ≡ meaning.find_in_prelude (name_of name.now) count (scope_env inputs scope.now) }
+    ensures { FindsInPrelude (name_of name.now) count scope.now result }
 {
     match scope {
         Scope::Run(outside) => {

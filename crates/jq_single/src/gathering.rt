@@ -1,12 +1,11 @@
 // The outputs of a filter, each passed on to the rest of the filter.
 ghost use Rattle.std.specs.Prelude.{map};
-ghost use Rattle.jv_meaning.specs.Text.{text_of};
-ghost use Rattle.jv_data.specs.View.{view};
 ghost use Rattle.jq_ast.specs.Named.{name_of, named, named_as_pattern};
 ghost use Rattle.jq_tree.specs.Tree.{trees_of};
 ghost use Rattle.jq_tree.specs.Tree as form;
 ghost use Rattle.jq_operations.specs.Language.{meaning_of};
 ghost use Rattle.jq_state.specs.Items.{item_of};
+ghost use Rattle.jq_operations.specs.Entering.{defined};
 ghost use Rattle.jq_single.specs.private.Gathering.{GathersBelow, GathersBuiltin, GathersOf};
 
 use crate::calling::scope_of_call;
@@ -231,7 +230,7 @@ impl<'s> Context<'s> {
         rest: &Rest<'s>,
         into: &mut Vec<Val>,
     ) -> Result<(), Stop>
-        ensures { GathersOf self.now (form.define (text_of function.now.name) (map text_of function.now.parameters.items) (named function.now.body) (named later.now)) (item_of item.now) rest.now result into.old.items into.new.items }
+        ensures { GathersOf self.now (defined function.now (named later.now)) (item_of item.now) rest.now result into.old.items into.new.items }
     {
         let scope = Scope::Function(&*self.scope, &*function);
         let inside = Context {
