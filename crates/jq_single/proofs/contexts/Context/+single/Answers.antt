@@ -1096,15 +1096,15 @@ change_to_first-returns-clause-runs t c = λ inputs level.
     (body_runs (scope_env inputs c.args.own.now) depth (depth - 1) level (named c.args.body.now) (plain (view c.args.value.now)) (omega arith))
     (c.change_first.ensures.runs inputs level)
 
-pub change_first-returns-clause-runs : goal.change_first-returns-clause-runs
-change_first-returns-clause-runs t c = λ inputs level.
+pub change_first-returns-in_default-clause-runs : goal.change_first-returns-in_default-clause-runs
+change_first-returns-in_default-clause-runs t c = λ inputs level.
     changed-first c.change.result (view c.change.new.value) (run c.args.self.now inputs level (named c.args.tree.now) (plain (view c.args.value.now))) (c.change.ensures.runs inputs level)
 
 pub change_first-returns-in-Err-clause-keeps : goal.change_first-returns-in-Err-clause-keeps
 change_first-returns-in-Err-clause-keeps t c = leaves_same c.in-Err.stop (view c.args.value.now)
 
-pub get_first-returns : goal.get_first-returns
-get_first-returns t c = λ inputs level.
+pub get_first-returns-in_default : goal.get_first-returns-in_default
+get_first-returns-in_default t c = λ inputs level.
     answers-first c.get.result (run c.args.self.now inputs level (named c.args.tree.now) (plain (view c.args.value.now))) (c.get.ensures inputs level)
 
 pub first_of_two-returns-in-Ok : goal.first_of_two-returns-in-Ok
