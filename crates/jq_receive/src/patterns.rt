@@ -63,7 +63,7 @@ pub fn match_later<'p>(
     scope: Scope,
 ) -> Result<Next<'p>, NoMemory>
     requires { scope.env < count_of state.old.nodes }
-    ensures { IfOk result (λ n. ComesTo (transition state.old scope (machine.match_later (tasks_of remaining.entry.value.tasks.items) (binder_of remaining.entry.value.binder))) state.new n) }
+    ensures { IfOk result (λ n. ComesTo (λ inputs. machine.match_later (tasks_of remaining.entry.value.tasks.items) (binder_of remaining.entry.value.binder) (scope_in (envs_in inputs state.old) scope) (frames_in inputs state.old) (forks_in inputs state.old)) state.new n) }
 {
     match remaining.tasks.pop() {
         Some(Task::Items(patterns, index, value)) => {
