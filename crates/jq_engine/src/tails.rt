@@ -63,7 +63,7 @@ pub(crate) fn evaluate<'p>(
     let mut left = TAILS;
     'tails: while left > 0 {
         left -= 1;
-        match tail(alloc, state, tree, scope, &mut input, inputs, guard)? {
+        match next_tail(alloc, state, tree, scope, &mut input, inputs, guard)? {
             Tail::Filter(later, inside) => {
                 tree = later;
                 scope = inside;
@@ -77,7 +77,7 @@ pub(crate) fn evaluate<'p>(
 
 // The end of a turn of an update that keeps its path does so in place.
 #[inline(always)]
-fn tail<'p>(
+fn next_tail<'p>(
     alloc: Global,
     state: &mut State<'p>,
     tree: &'p Tree,

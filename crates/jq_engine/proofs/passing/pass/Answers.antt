@@ -28,7 +28,7 @@ pub returns-in-Some-2 : goal.returns-in-Some-2
 returns-in-Some-2 c =
     let inputs = inputs_of c.args.inputs.now in
     let s = c.args.state.now in
-    let skipped = c.skip-in-Some.new.self in
+    let skipped = c.skip-2.new.self in
     let f = c.in-Some-2.step in
     let q = c.in-Some-2.scope in
     let x = item_of c.args.item in

@@ -1,4 +1,4 @@
-use Rattle.std.proofs.Common.{◌≡◌, ◌∷◌, sym, ap, subst}
+use Rattle.std.proofs.Common.{◌≡◌, ◌∙◌, ◌∷◌, sym, ap, subst}
 use Rattle.jv_data.specs.View.{view}
 use Rattle.jq_ast.specs.Named.{named}
 use Rattle.jq_tree.specs.Tree.{choice}
@@ -13,6 +13,7 @@ use Rattle.jq_state.specs.Links.{scope_in}
 use Rattle.jq_state.specs.Nodes.{env_at}
 use Rattle.jq_state.specs.Views.{envs_in, frames_in, forks_in}
 use Rattle.jq_state.specs.declared.environments.Nodes.{Nodes}
+use Rattle.jq_state.specs.declared.items.Item as items
 use Rattle.jq_engine.specs.private.Leading.{HasStopped, at_filter, gives, here, by_transition, by_run}
 use Rattle.jq_engine.proofs.Waiting.{value_alone}
 use Rattle.jq_engine.proofs.tails.choice_tail.Goals as goal
@@ -52,7 +53,9 @@ returns-then-not-tries_plain c =
     let g = named c.args.fails.now in
     let x = item_of c.args.input.now in
     let same = value_alone c.args.input.now (view c.in_ok-value.value) c.in_ok-value.ensures ∙ sym c.plain.ensures in
-    let first = ap (λ z. moves (state (evaluate t p z) (test f g p x ∷ frames_in inputs s) (forks_in inputs s))) same in
+    let first =
+    ap (λ z. moves (state (evaluate t p z) (test f g p x ∷ frames_in inputs s) (forks_in inputs s))) same
+    ∙ ap (λ (z : items.Item). moves (state (evaluate t p (item_of c.plain.result)) (test f g p (item_of z) ∷ frames_in inputs s) (forks_in inputs s))) (sym c.taken.ensures) in
     c.in_ok-progress.ensures inputs (at_filter inputs s (choice t f g) q x) first
 
 pub returns : goal.returns
@@ -68,5 +71,7 @@ returns c =
     let v = view c.in_ok-value.value in
     let stop = c.in-Err.stop in
     let h : HasStopped inputs s t q v stop = subst (λ (ns : Nodes). Ends stop (meaning q.depth t (env_at (envs_of inputs ns) q.env) q.level (plain v))) c.nodes.ensures (c.in-Err.ensures.runs inputs q.level) in
-    let first = ap (λ z. moves (state (evaluate t p z) (test f g p x ∷ frames_in inputs s) (forks_in inputs s))) (value_alone c.args.input.now v c.in_ok-value.ensures) in
+    let first =
+    ap (λ z. moves (state (evaluate t p z) (test f g p x ∷ frames_in inputs s) (forks_in inputs s))) (value_alone c.args.input.now v c.in_ok-value.ensures)
+    ∙ ap (λ (z : items.Item). moves (state (evaluate t p (plain v)) (test f g p (item_of z) ∷ frames_in inputs s) (forks_in inputs s))) (sym c.taken-in-Err.ensures) in
     c.in_ok-progress-in-Err.ensures v h c.in-Err.ensures.keeps (at_filter inputs s (choice t f g) q x) first

@@ -4,8 +4,10 @@ use Rattle.jq_ast.specs.Named.{named}
 use Rattle.jq_tree.specs.Tree.{pipe}
 use Rattle.jq_meaning.specs.Meaning.{meaning}
 use Rattle.jq_meaning.specs.Runs.{Item, plain, one}
+use Rattle.jq_machine.specs.Machine.{step}
+use Rattle.jq_machine.specs.State as machine
 use Rattle.jq_machine.specs.State.{pipe_into, state, give}
-use Rattle.jq_single.specs.Single.{Ends}
+use Rattle.jq_single.specs.Single.{Ends, Leaves}
 use Rattle.jq_state.specs.Environments.{envs_of}
 use Rattle.jq_state.specs.Inputs.{inputs_of}
 use Rattle.jq_state.specs.Items.{item_of}
@@ -23,7 +25,8 @@ pub returns-then-not-tries : goal.returns-then-not-tries
 returns-then-not-tries c =
     let inputs = inputs_of c.args.inputs.now in
     let f = pipe (named c.args.first.now) (named c.args.second.now) in
-    c.in_ok-progress.ensures inputs (at_filter inputs c.args.state.now f c.args.scope (item_of c.args.input.now)) refl
+    let at : items.Item → machine.State = λ z. at_filter inputs c.args.state.now f c.args.scope (item_of z) in
+    c.in_ok-progress.ensures inputs (at c.args.input.now) (ap (λ z. step (at z)) (sym c.taken.ensures))
 
 pub returns-in-Ok : goal.returns-in-Ok
 returns-in-Ok c =
@@ -59,5 +62,6 @@ returns c =
     let v = view old.value in
     let stop = c.in-Err.stop in
     let h : HasStopped inputs s t q v stop = subst (λ (ns : Nodes). Ends stop (meaning q.depth t (env_at (envs_of inputs ns) q.env) q.level (plain v))) c.nodes.ensures (c.in-Err.ensures.runs inputs q.level) in
+    let left : Leaves stop v (view c.taken-in-Err.result.value) = subst (λ (z : items.Item). Leaves stop v (view z.value)) (sym c.taken-in-Err.ensures) c.in-Err.ensures.keeps in
     subst (λ (z : Item). Leads inputs (at_filter inputs s f q z) c.stopped.new.state c.in_ok-progress-in-Err.progress) (sym (absent old (c.if-not-tries.ensures refl)))
-    (c.in_ok-progress-in-Err.ensures v h c.in-Err.ensures.keeps (at_filter inputs s f q (plain v)) refl)
+    (c.in_ok-progress-in-Err.ensures v h left (at_filter inputs s f q (plain v)) refl)

@@ -1,7 +1,9 @@
-use Rattle.std.proofs.Common.{sym, subst}
+use Rattle.std.proofs.Common.{◌∙◌, sym, ap, subst}
+use Rattle.jv_data.specs.View.{view}
 use Rattle.jq_ast.specs.Named.{named}
-use Rattle.jq_meaning.specs.Runs.{Item}
+use Rattle.jq_meaning.specs.Runs.{Item, plain}
 use Rattle.jq_state.specs.Inputs.{inputs_of}
+use Rattle.jq_state.specs.declared.items.Item as items
 use Rattle.jq_state.proofs.shared.Items.{absent}
 use Rattle.jq_engine.specs.private.Leading.{Leads, at_filter}
 use Rattle.jq_engine.proofs.tails.tail_or_whole.Goals as goal
@@ -11,5 +13,5 @@ returns-then-tries c =
     let inputs = inputs_of c.args.inputs.now in
     let s = c.args.state.now in
     let x = c.args.input.now in
-    subst (λ (y : Item). Leads inputs (at_filter inputs s (named c.args.tree.now) c.args.scope y) c.run_whole.new.state c.in_ok-progress.progress) (sym (absent x (c.tries.ensures c.if-tries.true)))
+    subst (λ (y : Item). Leads inputs (at_filter inputs s (named c.args.tree.now) c.args.scope y) c.run_whole.new.state c.in_ok-progress.progress) (sym (absent x (c.tries.ensures c.if-tries.true) ∙ ap (λ (z : items.Item). plain (view z.value)) (sym c.taken.ensures)))
     c.in_ok-progress.ensures
