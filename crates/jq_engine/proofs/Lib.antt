@@ -2,12 +2,10 @@ pub mod AtOnce
 pub mod Covering
 pub mod Fitting
 pub mod Leading
-pub mod Operators
 pub mod Pipes
 pub mod Puts
 pub mod Ready
 pub mod Starting
-pub mod Tails
 pub mod Transitions
 pub mod Turning
 pub mod Updates
