@@ -1,3 +1,2 @@
 -- What is proved about runs.
 pub mod Unhalted
-pub mod Bindings

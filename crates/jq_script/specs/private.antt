@@ -2,4 +2,3 @@
 pub mod Reading
 pub mod Lines
 pub mod Replies
-pub mod Pieces
