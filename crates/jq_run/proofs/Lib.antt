@@ -1,2 +1,2 @@
 pub mod shared
-pub mod Running
+pub mod OfTexts

@@ -1,7 +1,7 @@
 use Rattle.jq_state.specs.Listed.{items_in}
 use Rattle.jq_filters.specs.Runner.{job_of}
 use Rattle.jq_stream.specs.Streams.{streams_of}
-use Rattle.jq_run.proofs.Running.{has_run, has_stopped, needs_none, runs}
+use Rattle.jq_run.proofs.OfTexts.{has_run, has_stopped, needs_none, runs}
 use Rattle.jq_run.proofs.running.run_compiled.Goals as goal
 
 pub returns-clause-ran : goal.returns-clause-ran
