@@ -2,12 +2,12 @@ pub mod AtOnce
 pub mod Covering
 pub mod Fitting
 pub mod Leading
-pub mod Operators
+pub mod OnConstants
 pub mod Pipes
 pub mod Puts
 pub mod Ready
 pub mod Starting
-pub mod Tails
+pub mod Following
 pub mod Transitions
 pub mod Turning
 pub mod Updates

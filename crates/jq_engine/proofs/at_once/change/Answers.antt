@@ -6,7 +6,7 @@ use Rattle.jq_meaning.specs.Runs.{Item, Run, plain}
 use Rattle.jq_single.specs.Single.{Changed}
 use Rattle.jq_state.specs.Environments.{envs_of}
 use Rattle.jq_state.specs.Nodes.{env_at}
-use Rattle.jq_engine.proofs.Operators.{on_constant}
+use Rattle.jq_engine.proofs.OnConstants.{on_constant}
 use Rattle.jq_engine.proofs.at_once.change.Goals as goal
 
 pub returns-in-Some-clause-runs : goal.returns-in-Some-clause-runs

@@ -7,7 +7,7 @@ use Rattle.jq_machine.specs.Evaluating.{enter_callee, enter_body, enter_builtin}
 use Rattle.jq_state.specs.Environments.{count_of, envs_of}
 use Rattle.jq_state.specs.Links.{scope_in}
 use Rattle.jq_state.specs.Nodes.{env_at}
-use Rattle.jq_engine.proofs.Tails.{with_none}
+use Rattle.jq_engine.proofs.Following.{with_none}
 use Rattle.jq_engine.proofs.bodies.body_of.Goals as goal
 
 pub returns-in-Function-clause-body : goal.returns-in-Function-clause-body

@@ -4,7 +4,7 @@ use Rattle.jq_state.specs.Inputs.{inputs_of}
 use Rattle.jq_state.specs.Items.{item_of}
 use Rattle.jq_engine.specs.private.Leading.{here, at_filter}
 use Rattle.jq_engine.proofs.Leading.{and_then, leads_later, later_leads}
-use Rattle.jq_engine.proofs.Tails.{arrives_later}
+use Rattle.jq_engine.proofs.Following.{arrives_later}
 use Rattle.jq_engine.proofs.tails.evaluate.Goals as goal
 
 pub tails-init : goal.tails-init
