@@ -1,6 +1,5 @@
 -- Filters in tail position.
-use Rattle.std.proofs.Common.{◌≡◌, ◌∙◌, Result, IfOk, subst}
-use Rattle.std.proofs.lemmas.Result.{IfOk-weaker}
+use Rattle.std.proofs.Common.{◌≡◌, ◌∷◌, [], refl, List}
 use Rattle.jv_meaning.specs.Value.{Value}
 use Rattle.jq_tree.specs.Tree.{Name, no_trees, call}
 use Rattle.jq_meaning.specs.Env.{Env, with_arguments}

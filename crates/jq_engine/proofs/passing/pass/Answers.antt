@@ -24,22 +24,22 @@ returns-in-Some c =
     goes_later inputs (state (give x) (frames_in inputs s) (forks_in inputs s)) (state (evaluate t (scope_in (envs_in inputs skipped) q) x) (frames_in inputs skipped) (forks_in inputs skipped)) c.evaluate.new.state c.evaluate.result
     (by_transition (comes_to_pipe inputs s skipped t q x c.skip.ensures.envs frames (c.skip.ensures.forks inputs)) here) c.evaluate.ensures
 
-pub returns-in-Some-2 : goal.returns-in-Some-2
-returns-in-Some-2 c =
+pub returns-in-Some-top_step : goal.returns-in-Some-top_step
+returns-in-Some-top_step c =
     let inputs = inputs_of c.args.inputs.now in
     let s = c.args.state.now in
-    let skipped = c.skip-2.new.self in
-    let f = c.in-Some-2.step in
-    let q = c.in-Some-2.scope in
+    let skipped = c.skip-in-Some-top_step.new.self in
+    let f = c.in-Some-top_step.step in
+    let q = c.in-Some-top_step.scope in
     let x = item_of c.args.item in
     let u = c.run_step.new.state in
     let r = c.in_ok-progress.progress in
     let first : frames_in inputs s ≡ source_of f (scope_in (envs_in inputs skipped) q) ∷ frames_in inputs skipped =
-    c.in-Some-2.ensures.frames inputs
-    ∙ ap (λ k. source_of f (scope_in (envs_in inputs s) q) ∷ k) (sym (c.skip-2.ensures.frames inputs))
-    ∙ ap (λ ns. source_of f (scope_in (envs_of inputs ns) q) ∷ frames_in inputs skipped) (sym c.skip-2.ensures.envs) in
+    c.in-Some-top_step.ensures.frames inputs
+    ∙ ap (λ k. source_of f (scope_in (envs_in inputs s) q) ∷ k) (sym (c.skip-in-Some-top_step.ensures.frames inputs))
+    ∙ ap (λ ns. source_of f (scope_in (envs_of inputs ns) q) ∷ frames_in inputs skipped) (sym c.skip-in-Some-top_step.ensures.envs) in
     subst (λ k. Leads inputs (state (give x) k (forks_in inputs s)) u r) (sym first)
-    (subst (λ fs. Leads inputs (state (give x) (source_of f (scope_in (envs_in inputs skipped) q) ∷ frames_in inputs skipped) fs) u r) (c.skip-2.ensures.forks inputs) c.in_ok-progress.ensures)
+    (subst (λ fs. Leads inputs (state (give x) (source_of f (scope_in (envs_in inputs skipped) q) ∷ frames_in inputs skipped) fs) u r) (c.skip-in-Some-top_step.ensures.forks inputs) c.in_ok-progress.ensures)
 
 pub returns : goal.returns
 returns c = c.in_ok-progress-2.ensures (inputs_of c.args.inputs.now)

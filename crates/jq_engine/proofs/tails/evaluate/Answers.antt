@@ -18,12 +18,12 @@ pub returns-in-Progress : goal.returns-in-Progress
 returns-in-Progress c =
     let inputs = inputs_of c.args.inputs.now in
     let start = at_filter inputs c.args.state.now (named c.args.tree.now) c.args.scope (item_of c.args.input) in
-    let now = at_filter inputs c.tails.state (named c.tails.tree) c.tails.scope (item_of c.tails.input) in
+    let now = at_filter inputs c.tails.state (named c.tails.tree.now) c.tails.scope (item_of c.tails.input) in
     later_leads inputs start now c.next_tail.new.state c.in-Progress.progress c.tails.invariant.run (rw c.in-Progress.is at c.in_ok-later.ensures)
 
 pub returns : goal.returns
 returns c =
     let inputs = inputs_of c.args.inputs.now in
     let start = at_filter inputs c.args.state.now (named c.args.tree.now) c.args.scope (item_of c.args.input) in
-    let now = at_filter inputs c.tails.state (named c.tails.tree) c.tails.scope (item_of c.tails.input) in
+    let now = at_filter inputs c.tails.state (named c.tails.tree.now) c.tails.scope (item_of c.tails.input) in
     leads_later inputs start now c.begin.new.state c.begin.result c.tails.invariant.run c.begin.ensures

@@ -51,8 +51,8 @@ returns-in-Ok c =
           (subst (λ (z : Item). Arrives (at_filter inputs s (pipe t g) q x) (at_filter inputs s g q z)) (sym (absent new (c.if-not-tries.ensures refl))) arrives),
     )
 
-pub returns : goal.returns
-returns c =
+pub returns-in_ok-progress-in-Err : goal.returns-in_ok-progress-in-Err
+returns-in_ok-progress-in-Err c =
     let inputs = inputs_of c.args.inputs.now in
     let s = c.args.state.now in
     let q = c.args.scope in
@@ -62,6 +62,6 @@ returns c =
     let v = view old.value in
     let stop = c.in-Err.stop in
     let h : HasStopped inputs s t q v stop = subst (λ (ns : Nodes). Ends stop (meaning q.depth t (env_at (envs_of inputs ns) q.env) q.level (plain v))) c.nodes.ensures (c.in-Err.ensures.runs inputs q.level) in
-    let left : Leaves stop v (view c.taken-in-Err.result.value) = subst (λ (z : items.Item). Leaves stop v (view z.value)) (sym c.taken-in-Err.ensures) c.in-Err.ensures.keeps in
+    let left : Leaves stop v (view c.taken-value.result.value) = subst (λ (z : items.Item). Leaves stop v (view z.value)) (sym c.taken-value.ensures) c.in-Err.ensures.keeps in
     subst (λ (z : Item). Leads inputs (at_filter inputs s f q z) c.stopped.new.state c.in_ok-progress-in-Err.progress) (sym (absent old (c.if-not-tries.ensures refl)))
     (c.in_ok-progress-in-Err.ensures v h left (at_filter inputs s f q (plain v)) refl)

@@ -13,5 +13,5 @@ returns-then-tries c =
     let inputs = inputs_of c.args.inputs.now in
     let s = c.args.state.now in
     let x = c.args.input.now in
-    subst (λ (y : Item). Leads inputs (at_filter inputs s (named c.args.tree.now) c.args.scope y) c.run_whole.new.state c.in_ok-progress.progress) (sym (absent x (c.tries.ensures c.if-tries.true) ∙ ap (λ (z : items.Item). plain (view z.value)) (sym c.taken.ensures)))
+    subst (λ (y : Item). Leads inputs (at_filter inputs s (named c.args.tree.now) c.args.scope y) c.run_whole.new.state c.in_ok-progress.progress) (sym (absent x (c.tries.ensures c.if-tries.true) ∙ ap (λ (z : items.Item). plain (view z.value)) (sym c.taken-value.ensures)))
     c.in_ok-progress.ensures
