@@ -1,16 +1,10 @@
 -- Filters in tail position.
 use Rattle.std.proofs.Common.{◌≡◌, ◌∷◌, [], refl, List}
-use Rattle.jv_meaning.specs.Value.{Value}
-use Rattle.jq_tree.specs.Tree.{Name, no_trees, call}
+use Rattle.jq_tree.specs.Tree.{Name, no_trees}
 use Rattle.jq_meaning.specs.Env.{Env, with_arguments}
-use Rattle.jq_meaning.specs.Runs.{Run}
 use Rattle.jq_machine.specs.State as machine
-use Rattle.jq_state.specs.declared.items.Item.{Item}
-use Rattle.jq_state.specs.declared.states.State.{State}
-use Rattle.jq_engine.specs.declared.tails.Tail.{Tail}
-use Rattle.jq_engine.specs.declared.tails.Tail.TheVariants as tail
-use Rattle.jq_engine.specs.private.Leading.{Advances, here, by_transition, Leads}
-use Rattle.jq_engine.specs.private.Tails.{Arrives, Follows}
+use Rattle.jq_engine.specs.private.Leading.{Advances, here, by_transition}
+use Rattle.jq_engine.specs.private.Tails.{Arrives}
 use Rattle.jq_engine.proofs.Leading.{and_then}
 
 pub arrives_later : {before goal : machine.State} → Arrives before goal → Advances before goal

@@ -1,10 +1,10 @@
-use Rattle.std.proofs.Common.{◌∙◌, ◌<◌, map, sym, ap, subst}
+use Rattle.std.proofs.Common.{◌∙◌, map, sym, ap}
 use Rattle.jv_meaning.specs.Text.{text_of}
 use Rattle.jq_ast.specs.Named.{name_of, named}
 use Rattle.jq_tree.specs.Tree.{no_trees}
 use Rattle.jq_meaning.specs.Builtins.{builtin_named}
 use Rattle.jq_machine.specs.Evaluating.{enter_callee, enter_body, enter_builtin}
-use Rattle.jq_state.specs.Environments.{count_of, envs_of}
+use Rattle.jq_state.specs.Environments.{envs_of}
 use Rattle.jq_state.specs.Links.{scope_in}
 use Rattle.jq_state.specs.Nodes.{env_at}
 use Rattle.jq_engine.proofs.Following.{with_none}

@@ -1,4 +1,4 @@
-use Rattle.std.proofs.Common.{◌≡◌, ◌∙◌, ◌∷◌, refl, sym, ap, subst}
+use Rattle.std.proofs.Common.{◌≡◌, ◌∷◌, refl, sym, ap, subst}
 use Rattle.jv_data.specs.View.{view}
 use Rattle.jq_ast.specs.Named.{named}
 use Rattle.jq_tree.specs.Tree.{pipe}
