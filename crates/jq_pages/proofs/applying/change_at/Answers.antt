@@ -47,3 +47,6 @@ returns-clause-edit g c =
           ∥∥₁_map c.edit_at.ensures.edit.edits (λ e. room_edit _ _ _ _ _ _ _ _ _ _ _ _ _ _ _ (still_rise _ _) (page_spot c.args.pages.now.items c.find-j.result.0 c.find-j.result.1 (page g b) (has g b) (sized g b)) e);
       one = c.edit_at.ensures.edit.one;
     }
+
+pub edit_at-requires-clause-summed : goal.edit_at-requires-clause-summed
+edit_at-requires-clause-summed g c = record { index = c.requires.stored.index; few = c.requires.few }

@@ -1,4 +1,4 @@
-use Rattle.std.proofs.Common.{◌≡◌, ℕ, ◌+◌, ◌-◌, ◌/◌, ◌<◌, ◌≤◌, ◌∷◌, ◌++◌, List, length, length-drop, take, drop, map, ap, ap₂, sym, ◌∙◌, subst, subst₂, arith, None, IfSome, IsSome, IsTrue, IsFalse, Bool, Option, Some, Result, MatchOption, ◌↔◌, refl}
+use Rattle.std.proofs.Common.{◌≡◌, ℕ, ◌+◌, ◌-◌, ◌/◌, ◌<◌, ◌≤◌, ◌∷◌, ◌++◌, List, length, length-drop, take, drop, map, ap, ap₂, sym, ◌∙◌, subst, subst₂, arith, None, IfSome, IsSome, IsTrue, IsFalse, Bool, true, false, Option, Some, Result, MatchOption, ◌↔◌, refl}
 use Rattle.std.proofs.Math.Logic.{∥∥₁_elim, ∥∥₁_map}
 use Rattle.std.proofs.Props.{props}
 use Rattle.std.specs.List.{replace_range}
@@ -22,6 +22,7 @@ use Rattle.jq_pages.proofs.Cuts.{done_splices}
 use Rattle.jq_pages.proofs.Edits.{pieces_length}
 use Rattle.jq_pages.proofs.Filled.{installed_but, installed_length}
 use Rattle.jq_pages.proofs.Groups.{few_group, index_installed}
+use Rattle.jq_pages.proofs.Public.{on_err}
 use Rattle.jq_pages.proofs.Reruns.{count_part}
 use Rattle.jq_pages.proofs.applying.edit_pages.Goals as goal
 use Rattle.jq_pages.proofs.applying.edit_pages.Goals.{After-run_edit, After-deref-6}
@@ -254,7 +255,7 @@ never false t f = cc
 -- the piece of `close` if it was not run again
 tail_stays : (b : Bool) (o : Option Piece) (old new : Piece) → IsTrue b ↔ IsSome o → MatchOption o (new ≡ old) (λ p. new ≡ p) → IsFalse b → new ≡ old
 tail_stays b None old new e m f = m
-tail_stays b (Some p) old new e m f = absurd (never b (e.1 tt) f)
+tail_stays b (Some p) old new e m f = absurd (never b (e.1 refl) f)
 
 pub returns-clause-applied : goal.returns-clause-applied
 returns-clause-applied g d =
@@ -274,3 +275,29 @@ returns-clause-applied g d =
       taken = c.exchange-value.ensures.back;
       old_tail = c.exchange-value.ensures.swapped.old_tail;
     }
+
+pub returns-in_err-made-clause-unchanged : goal.returns-in_err-made-clause-unchanged
+returns-in_err-made-clause-unchanged g c = on_err c.from_residual.result (refl, refl)
+
+pub returns-in_err-made-clause-pages : goal.returns-in_err-made-clause-pages
+returns-in_err-made-clause-pages g c = record { count = refl; filled = λ h. h }
+
+pub returns-in_err-made-clause-kept : goal.returns-in_err-made-clause-kept
+returns-in_err-made-clause-kept g c = record {
+  same = c.run_edit.ensures.same;
+  held = subst (λ z. ∥ IsHeld g.S.Steps.seen z (g.S.Steps.seen c.args.first.now) c.args.pages.now.items c.args.tail.now ∥₁) (sym c.run_edit.ensures.same) c.requires.held;
+  index = c.requires.summed.index;
+}
+
+pub returns-in_err-splices-clause-unchanged : goal.returns-in_err-splices-clause-unchanged
+returns-in_err-splices-clause-unchanged g c = on_err c.from_residual-in_err-splices.result (refl, refl)
+
+pub returns-in_err-splices-clause-pages : goal.returns-in_err-splices-clause-pages
+returns-in_err-splices-clause-pages g c = record { count = refl; filled = λ h. h }
+
+pub returns-in_err-splices-clause-kept : goal.returns-in_err-splices-clause-kept
+returns-in_err-splices-clause-kept g c = record {
+  same = c.run_edit.ensures.same;
+  held = subst (λ z. ∥ IsHeld g.S.Steps.seen z (g.S.Steps.seen c.args.first.now) c.args.pages.now.items c.args.tail.now ∥₁) (sym c.run_edit.ensures.same) c.requires.held;
+  index = c.requires.summed.index;
+}

@@ -5,7 +5,7 @@ use Rattle.jq_pages.specs.private.Pages.{IsFilledBut, IsHeld, IsPlace}
 use Rattle.jq_pages.specs.private.Reruns.{count_in}
 use Rattle.jq_pages.proofs.Applied.{page_small, page_spot, spot_small}
 use Rattle.jq_pages.proofs.Filled.{held_again, same_count}
-use Rattle.jq_pages.proofs.Parts.{parts_but, parts_inputs}
+use Rattle.jq_pages.proofs.Parts.{parts_but, parts_inputs, parts_length}
 use Rattle.jq_pages.proofs.Plain.{still_rise}
 use Rattle.jq_pages.proofs.Shifts.{shift_around, shift_no_room, shift_room}
 use Rattle.jq_pages.proofs.moving.shift_at.Goals as goal
@@ -148,3 +148,6 @@ returns-in-Err-clause-stored g c =
       filled = ∥∥₁_map c.in_ok-page.ensures.room.filled (λ h. c.settle-in-Err.ensures.filled (parts_but c.make_room.new.pages.items c.shift_in.new.pages.items c.in_ok-page.page c.in-Err.ensures.back h));
       index = c.settle-in-Err.ensures.index;
     }
+
+pub settle-requires-in-Err-clause-page : goal.settle-requires-in-Err-clause-page
+settle-requires-in-Err-clause-page g c = subst (λ n. c.in_ok-page.page < n) (sym (parts_length c.make_room.new.pages.items c.shift_in.new.pages.items c.in-Err.ensures.back)) c.in_ok-page.ensures.room.at.place.page

@@ -128,3 +128,16 @@ returns-in-Ok-clause-shifted g c =
       count = c.in-Ok.ensures.resized.same ∙ c.in_ok-removal.ensures.applied.resized.same;
       filled = λ h. filled_moved c.args.pages.now.items c.edit_either.new.pages.items c.insert_in.new.pages.items c.args.from.page c.args.to.page c.in_ok-removal.ensures.applied.resized c.in-Ok.ensures.resized h;
     }
+
+pub put_back-requires-clause-place : goal.put_back-requires-clause-place
+put_back-requires-clause-place g c = c.in-Err.ensures.unchanged.place _ _ ((c.in_ok-removal.ensures.applied.taken refl refl).room)
+
+pub returns-in-Err-clause-back : goal.returns-in-Err-clause-back
+returns-in-Err-clause-back g c = c.put_back.ensures.pages ∙ ap (λ z. restored z c.args.from.page c.args.from.at c.in_ok-removal.taken) c.in-Err.ensures.unchanged.same ∙ (c.in_ok-removal.ensures.applied.taken refl refl).back
+
+pub returns-in-Ok-clause-kept : goal.returns-in-Ok-clause-kept
+returns-in-Ok-clause-kept g c = record {
+  same = c.insert_in.ensures.kept.same ∙ c.edit_either.ensures.kept.same;
+  held = c.insert_in.ensures.kept.held;
+  index = c.insert_in.ensures.kept.index;
+}

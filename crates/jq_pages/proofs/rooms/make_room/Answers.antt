@@ -1,5 +1,6 @@
-use Rattle.std.proofs.Common.{◌≡◌, ℕ, ◌+◌, ◌<◌, ◌≤◌, length, take, get_or, ap, sym, ◌∙◌, subst, arith}
+use Rattle.std.proofs.Common.{◌≡◌, ℕ, ◌+◌, ◌-◌, ◌<◌, ◌≤◌, length, take, get_or, ap, sym, ◌∙◌, subst, arith}
 use Rattle.std.proofs.Math.Logic.{∥∥₁_elim, ∥∥₁_map}
+use Rattle.jq_pages.specs.Folds.{Rises}
 use Rattle.jq_pages.specs.private.Groups.{IsIndex}
 use Rattle.jq_pages.specs.private.Pages.{all_inputs, IsSized}
 use Rattle.jq_pages.specs.private.Reruns.{Holds}
@@ -99,3 +100,13 @@ returns-in-Err-clause-rearranged g c =
         index = c.drop_empty.ensures.index;
       };
     }
+
+fewer : (a b i : ℕ) → Rises a b (64 - i) → Rises a b 64
+fewer a b i x = let p : a ≤ b = x.low in let q : b ≤ a + (64 - i) = x.high in record { low = p; high = omega arith }
+
+pub returns-in-Err-clause-starts : goal.returns-in-Err-clause-starts
+returns-in-Err-clause-starts g c = record {
+  rises = tt;
+  at_most = fewer _ _ c.in_ok-j.i c.in_ok-j.ensures.starts.rises;
+  silent = c.in_ok-j.ensures.starts.silent;
+}
