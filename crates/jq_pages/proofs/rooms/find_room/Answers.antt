@@ -40,9 +40,9 @@ returns-in_ok-open_page-clause-rearranged g c =
 pub returns-then-has_room-clause-free : goal.returns-then-has_room-clause-free
 returns-then-has_room-clause-free g c =
     record {
-      page = subst (λ (z : List _). c.find-j.result.0 + 1 < length z) c.deref-3.ensures.value (c.has_room.ensures.page c.if-has_room.true);
+      page = subst (λ (z : List _). c.find-j.result.0 + 1 < length z) c.deref-then-i-eq-MOST_IN_PAGE.ensures.value (c.has_room.ensures.page c.if-has_room.true);
       within = λ d. least _;
-      fits = λ d. subst (λ (z : List _). length (get_or z (c.find-j.result.0 + 1) d).inputs.items + 1 ≤ 64) c.deref-3.ensures.value (c.has_room.ensures.room c.if-has_room.true d);
+      fits = λ d. subst (λ (z : List _). length (get_or z (c.find-j.result.0 + 1) d).inputs.items + 1 ≤ 64) c.deref-then-i-eq-MOST_IN_PAGE.ensures.value (c.has_room.ensures.room c.if-has_room.true d);
       spot = let ps = c.args.pages.now.items in
           let j = c.find-j.result.0 in
           let p = c.index-2.result.now in
