@@ -1,4 +1,4 @@
-use Rattle.std.proofs.Common.{◌≡◌, ℕ, ◌+◌, ◌≤◌, ◌++◌, List, length, length-take, take, drop, map, min, Some, None, ap, ap₂, sym, ◌∙◌, subst, subst₂, arith}
+use Rattle.std.proofs.Common.{◌≡◌, ℕ, ◌+◌, ◌-◌, ◌≤◌, ◌++◌, List, length, length-drop, length-take, take_all, take, drop, map, min, Some, None, ap, ap₂, sym, ◌∙◌, subst, subst₂, arith}
 use Rattle.jv_data.specs.View.{view}
 use Rattle.jq_pages.specs.Folds.{Fold, Rises, state_after}
 use Rattle.jq_pages.specs.private.Reruns.{IsRunOf, RunsOver, AtMeetings, MeetsAt, count_in, exit_of}
@@ -6,11 +6,17 @@ use Rattle.jq_pages.specs.private.Placed.{put_at}
 use Rattle.jq_pages.proofs.editing.run_edit.Goals as goal
 use Rattle.jq_pages.proofs.editing.run_edit.Goals.{In_ok-run}
 
+all_left : {A : Type 0} (n : ℕ) (xs : List A) → length (drop n xs) ≤ length xs - n
+all_left n xs = let e : length (drop n xs) ≡ length xs - n = length-drop n xs in omega arith
+
+rest : {A : Type 0} (n : ℕ) (xs ys : List A) → xs ≡ ys → take (length xs - n) (drop n xs) ≡ drop n ys
+rest n xs ys e = take_all (length xs - n) (drop n xs) (all_left n xs) ∙ ap (drop n) e
+
 -- the run over the edited page
 run : (g : _) (c : In_ok-run g) → IsRunOf g.S.Steps.seen (g.S.Steps.fold c.args.steps.now) (g.S.Steps.seen c.args.entry.now) (put_at c.args.page.now.inputs.items c.args.i c.args.put.now c.args.cut) c.in_ok-run.run'
 run g c =
-    subst₂ (λ (y : List _) (z : List _). IsRunOf g.S.Steps.seen (g.S.Steps.fold c.args.steps.now) (g.S.Steps.seen c.args.entry.now) ((map view (take c.args.i y) ++ map view c.args.put.now) ++ map view (drop (c.args.i + c.args.cut) z)) c.in_ok-run.run')
-    c.deref.ensures.value c.deref-2.ensures.value c.in_ok-run.ensures.run
+    subst₂ (λ (y : List _) (z : List _). IsRunOf g.S.Steps.seen (g.S.Steps.fold c.args.steps.now) (g.S.Steps.seen c.args.entry.now) ((map view (take c.args.i y) ++ map view c.args.put.now) ++ map view z) c.in_ok-run.run')
+    c.deref.ensures.value (rest (c.args.i + c.args.cut) c.deref-2.result.now _ c.deref-2.ensures.value) c.in_ok-run.ensures.run
 
 not_none : {A : Type 0} (x : A) → Some x ≡ None → ⊥
 not_none x e = cc
@@ -43,7 +49,7 @@ added a b d e i p n q m l x y z =
 
 -- how often the run over the edited page starts the filter
 page : (g : _) (c : In_ok-run g) → Rises (g.S.Steps.starts c.args.steps.now) (g.S.Steps.starts c.run_page.new.steps) (length (take c.args.i c.deref.result.now) + length c.args.put.now + length (drop (c.args.i + c.args.cut) c.args.page.now.inputs.items))
-page g c = subst (λ (z : List _). Rises (g.S.Steps.starts c.args.steps.now) (g.S.Steps.starts c.run_page.new.steps) (length (take c.args.i c.deref.result.now) + length c.args.put.now + length (drop (c.args.i + c.args.cut) z))) c.deref-2.ensures.value c.run_page.ensures.rises
+page g c = subst (λ (z : List _). Rises (g.S.Steps.starts c.args.steps.now) (g.S.Steps.starts c.run_page.new.steps) (length (take c.args.i c.deref.result.now) + length c.args.put.now + length z)) (rest (c.args.i + c.args.cut) c.deref-2.result.now _ c.deref-2.ensures.value) c.run_page.ensures.rises
 
 pub returns-clause-starts : goal.returns-clause-starts
 returns-clause-starts g c =
