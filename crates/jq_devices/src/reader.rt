@@ -113,12 +113,9 @@ impl<O: Opener> Read for FileReader<'_, O> {
         ensures end { IfOk result (λ len. len ≡ 0 → 0 < length buf.old → IsDone self.new) }
         ensures ended { IsDone self.old → (result ≡ Ok 0) × (self.new ≡ self.old) }
 
-        // After an error there are only errors.
-        ensures fails { OnErr result (has_failed self.new ≡ true) }
+        // After an error there are only errors, and the first one is of the open file, or of opening the next one.
+        ensures fails { OnErr result ((has_failed self.new ≡ true) × (has_failed self.old ≡ false → a_part_failed O.can_open O.File.has_failed self.new ≡ true)) }
         ensures failed { has_failed self.old ≡ true → IsErr result × (self.new ≡ self.old) }
-
-        // The first error is one of the open file, or of opening the next one.
-        ensures blamed { OnErr result (has_failed self.old ≡ false → a_part_failed O.can_open O.File.has_failed self.new ≡ true) }
 
         ensures no_room { length buf.old ≡ 0 → self.new ≡ self.old }
 
