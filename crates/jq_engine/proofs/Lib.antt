@@ -2,10 +2,12 @@ pub mod AtOnce
 pub mod Covering
 pub mod Fitting
 pub mod Leading
+pub mod OnConstants
 pub mod Pipes
 pub mod Puts
 pub mod Ready
 pub mod Starting
+pub mod Following
 pub mod Transitions
 pub mod Turning
 pub mod Updates

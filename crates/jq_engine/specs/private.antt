@@ -2,4 +2,6 @@
 pub mod Folds
 pub mod Leading
 pub mod Reaching
+pub mod Tails
 pub mod UpdateEnds
+pub mod Forms

@@ -6,14 +6,13 @@ ghost use Rattle.jq_meaning.specs.Runs.{plain};
 ghost use Rattle.jq_machine.specs.State as abstract;
 ghost use Rattle.jq_state.specs.Environments.{count_of};
 ghost use Rattle.jq_state.specs.Inputs.{inputs_of};
-ghost use Rattle.jq_state.specs.Links.{scope_in};
-ghost use Rattle.jq_state.specs.Views.{envs_in, frames_in, forks_in};
 ghost use Rattle.jq_single.specs.Single.{Changes, Keeps};
-ghost use Rattle.jq_engine.specs.private.Leading.{GoesOn};
+ghost use Rattle.jq_engine.specs.private.Leading.{GoesOn, at_filter};
 
 use crate::guards::Guard;
-use crate::parts::begin;
+use crate::operators::{on_constant, operate};
 use crate::putting::hand_on;
+use crate::tails::begin;
 use jq_ast::Tree;
 use jq_backtracking::{Progress, raise};
 use jq_single::{Stop, apply};
@@ -37,7 +36,7 @@ pub(crate) fn run_at_once<'p>(
     guard: &mut Guard,
 ) -> Result<Option<Progress<'p>>, NoMemory>
     requires { scope.env < count_of state.old.nodes }
-    ensures { IfOk result (GoesOn (inputs_of inputs.now) (abstract.state (abstract.evaluate (named tree.now) (scope_in (envs_in (inputs_of inputs.now) state.old) scope) (plain (view value))) (frames_in (inputs_of inputs.now) state.old) (forks_in (inputs_of inputs.now) state.old)) state.new) }
+    ensures { IfOk result (GoesOn (inputs_of inputs.now) (at_filter (inputs_of inputs.now) state.old (named tree.now) scope (plain (view value))) state.new) }
 {
     match change(alloc, state.nodes(), tree, scope, &mut value) {
         Ok(()) => {
@@ -59,7 +58,7 @@ pub(crate) fn run_at_once<'p>(
     }
 }
 
-// Runs a filter of at most one output at once on a value, whose place its output takes.
+/// Runs a filter of at most one output at once on a value, whose place its output takes.
 pub(crate) fn change(
     alloc: Global,
     nodes: &Nodes<'_>,
@@ -71,5 +70,8 @@ pub(crate) fn change(
     ensures runs { Changes nodes.now scope.env scope.depth (named tree.now) (view value.old) (view value.new) result }
     ensures keeps { Keeps result (view value.old) (view value.new) }
 {
+    if let Some((operator, constant)) = on_constant(tree) {
+        return operate(alloc, operator, constant, value);
+    }
     apply(alloc, nodes, tree, scope.env, scope.depth, value)
 }

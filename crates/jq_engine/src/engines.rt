@@ -44,18 +44,13 @@ impl Drop for Engine<'_> {
 }
 
 impl<'p> Engine<'p> {
-    ghost use Rattle.std.specs.Prelude.{◌≡◌, IfOk, length, map};
+    ghost use Rattle.std.specs.Prelude.{◌≡◌, IfOk};
     ghost use Rattle.jv_data.specs.View.{view};
-    ghost use Rattle.jq_ast.specs.Named.{named};
-    ghost use Rattle.jq_bindings.specs.Programs.{program_env};
-    ghost use Rattle.jq_meaning.specs.Meaning.{meaning};
     ghost use Rattle.jq_meaning.specs.Runs as runs;
     ghost use Rattle.jq_machine.specs.Machine.{Produces};
-    ghost use Rattle.jq_state.specs.Listed.{items_in};
     ghost use Rattle.jq_state.specs.Nexts.{stands};
-    ghost use Rattle.jq_state.specs.Nodes.{program_binding};
     ghost use Rattle.jq_backtracking.specs.Outcomes.{IsBare, ending_of};
-    ghost use Rattle.jq_engine.specs.Engine.{HasEnded, IsFailed, IsRest, TellsEnd, Turns};
+    ghost use Rattle.jq_engine.specs.Engine.{HasEnded, IsFailed, IsRest, TellsEnd, Turns, program_run};
     ghost use Rattle.jq_engine.specs.Readiness.{CanGoOn};
 
     /// Starts the run of a filter's tree on an input, in the program's own bindings. At most `depth` calls may nest, and
@@ -69,7 +64,7 @@ impl<'p> Engine<'p> {
         input: Val,
         depth: u32,
     ) -> Result<Engine<'p>, NoMemory>
-        ensures { IfOk result (λ e. IsRest e (meaning depth (named tree.now) (program_env (map program_binding (items_in program.now)) (length (items_in program.now)) (inputs_of inputs)) 0 (runs.plain (view input)))) }
+        ensures { IfOk result (λ e. IsRest e (program_run depth tree.now program.now (inputs_of inputs) (view input))) }
     {
         the_machine_makes_the_run_of_a_filter();
         heights_stay_in_range();

@@ -8,9 +8,9 @@ ghost use Rattle.jq_state.specs.Inputs.{inputs_of};
 ghost use Rattle.jq_state.specs.Items.{item_of};
 ghost use Rattle.jq_state.specs.Links.{scope_in};
 ghost use Rattle.jq_state.specs.Steps.{step_in};
-ghost use Rattle.jq_state.specs.Views.{envs_in, frames_in, forks_in, without_first};
-ghost use Rattle.jq_engine.specs.private.Folds.{source_of};
-ghost use Rattle.jq_engine.specs.private.Leading.{Leads};
+ghost use Rattle.jq_state.specs.Views.{envs_in, frames_in, without_first};
+ghost use Rattle.jq_engine.specs.private.Folds.{source_in, source_of};
+ghost use Rattle.jq_engine.specs.private.Leading.{Leads, at_frame};
 
 use crate::guards::Guard;
 use crate::parts::run_part;
@@ -79,7 +79,7 @@ pub(crate) fn run_step<'p>(
     guard: &mut Guard,
 ) -> Result<Progress<'p>, NoMemory>
     requires { scope.env < count_of state.old.nodes }
-    ensures { IfOk result (Leads (inputs_of inputs.now) (abstract.state (abstract.give (item_of item)) (source_of step.entry (scope_in (envs_in (inputs_of inputs.now) state.old) scope) ∷ frames_in (inputs_of inputs.now) state.old) (forks_in (inputs_of inputs.now) state.old)) state.new) }
+    ensures { IfOk result (Leads (inputs_of inputs.now) (at_frame (inputs_of inputs.now) state.old (source_in (inputs_of inputs.now) state.old step.entry scope) (item_of item)) state.new) }
 {
     let FoldStep { name, height, fold } = step;
     let env = state.add(environments::Binding::Value(name, item.value), scope.env)?;

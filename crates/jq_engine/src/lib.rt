@@ -4,16 +4,19 @@
 #![tactic(auto)]
 
 mod at_once;
+mod bodies;
 mod doing;
 mod engines;
 mod folds;
 mod guards;
+mod operators;
 mod parts;
 mod passing;
 mod putting;
 mod running;
 mod small;
 mod stepping;
+mod tails;
 mod turns;
 
 pub use engines::Engine;

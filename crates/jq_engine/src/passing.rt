@@ -1,20 +1,22 @@
 // Items that go to the filter after a `|`, which may run at once.
-ghost use Rattle.std.specs.Prelude.{◌≡◌, ◌<◌, IfOk, IfSome};
+ghost use Rattle.std.specs.Prelude.{◌≡◌, ◌∷◌, ◌<◌, IfOk, IfSome};
+ghost use Rattle.jv_meaning.specs.Value.{Value};
 ghost use Rattle.jq_ast.specs.Named.{named};
+ghost use Rattle.jq_meaning.specs.Runs.{Run};
 ghost use Rattle.jq_machine.specs.State as abstract;
 ghost use Rattle.jq_state.specs.Environments.{count_of};
 ghost use Rattle.jq_state.specs.Inputs.{inputs_of};
 ghost use Rattle.jq_state.specs.Items.{item_of};
 ghost use Rattle.jq_state.specs.Links.{scope_in};
 ghost use Rattle.jq_state.specs.Steps.{step_in};
-ghost use Rattle.jq_state.specs.Views.{envs_in, frames_in, forks_in};
-ghost use Rattle.jq_engine.specs.private.Leading.{GoesOn, Leads};
+ghost use Rattle.jq_state.specs.Views.{envs_in, frames_in, forks_in, IsFirst};
+ghost use Rattle.jq_engine.specs.private.Leading.{GoesOn, Leads, at_filter, at_item};
 
 use crate::at_once::run_at_once;
 use crate::folds::{run_step, top_step};
 use crate::guards::Guard;
-use crate::parts::begin;
-use crate::putting::receive_output;
+use crate::putting::hand_on;
+use crate::tails::begin;
 use jq_ast::Tree;
 use jq_backtracking::{Progress, go_back_once, resume_newest};
 use jq_state::frames::Scope;
@@ -37,35 +39,33 @@ fn pass<'p>(
     inputs: &Inputs,
     guard: &mut Guard,
 ) -> Result<Option<Progress<'p>>, NoMemory>
-    ensures { IfOk result (GoesOn (inputs_of inputs.now) (abstract.state (abstract.give (item_of item)) (frames_in (inputs_of inputs.now) state.old) (forks_in (inputs_of inputs.now) state.old)) state.new) }
+    ensures { IfOk result (GoesOn (inputs_of inputs.now) (at_item (inputs_of inputs.now) state.old (item_of item)) state.new) }
 {
+    if let Some((tree, scope)) = top_pipe(state) {
+        state.skip();
+        return evaluate(alloc, state, tree, scope, item, inputs, guard);
+    }
     if let Some((step, scope)) = top_step(state) {
         state.skip();
         let progress = run_step(alloc, state, step, scope, item, inputs, guard)?;
         return Ok(Some(progress));
     }
-    pass_to_frame(alloc, state, item, inputs, guard)
+    let progress = hand_on(alloc, state, item)?;
+    Ok(Some(progress))
 }
 
-// The same where the frame is no fold's.
-fn pass_to_frame<'p>(
-    alloc: Global,
-    state: &mut State<'p>,
-    item: Item,
-    inputs: &Inputs,
-    guard: &mut Guard,
-) -> Result<Option<Progress<'p>>, NoMemory>
-    ensures { IfOk result (GoesOn (inputs_of inputs.now) (abstract.state (abstract.give (item_of item)) (frames_in (inputs_of inputs.now) state.old) (forks_in (inputs_of inputs.now) state.old)) state.new) }
+// The filter after a `|` that gets the next item, and its scope.
+#[inline(always)]
+fn top_pipe<'p>(state: &State<'p>) -> Option<(&'p Tree, Scope)>
+    ensures scope { IfSome result (λ r. r.1.env < count_of state.now.nodes) }
+    ensures frames { IfSome result (λ r. (inputs : Run Value) → IsFirst (abstract.pipe_into (named r.0.now) (scope_in (envs_in inputs state.now) r.1)) (frames_in inputs state.now)) }
 {
-    match state.take(alloc)? {
-        Some((step, scope)) => match piped(&step) {
-            Some(tree) => evaluate(alloc, state, tree, scope, item, inputs, guard),
-            None => {
-                let progress = receive_output(alloc, state, step, scope, item)?;
-                Ok(Some(progress))
-            }
-        },
-        None => Ok(Some(Progress::Outputs(item))),
+    let Some((step, scope)) = state.top() else {
+        return None;
+    };
+    match piped(step) {
+        Some(tree) => Some((tree, scope)),
+        None => None,
     }
 }
 
@@ -80,7 +80,7 @@ fn evaluate<'p>(
     guard: &mut Guard,
 ) -> Result<Option<Progress<'p>>, NoMemory>
     requires { scope.env < count_of state.old.nodes }
-    ensures { IfOk result (GoesOn (inputs_of inputs.now) (abstract.state (abstract.evaluate (named tree.now) (scope_in (envs_in (inputs_of inputs.now) state.old) scope) (item_of input)) (frames_in (inputs_of inputs.now) state.old) (forks_in (inputs_of inputs.now) state.old)) state.new) }
+    ensures { IfOk result (GoesOn (inputs_of inputs.now) (at_filter (inputs_of inputs.now) state.old (named tree.now) scope (item_of input)) state.new) }
 {
     if guard.tries(tree, &input) {
         return run_at_once(alloc, state, tree, scope, input.value, inputs, guard);
@@ -90,6 +90,7 @@ fn evaluate<'p>(
 }
 
 // The filter after a `|`.
+#[inline(always)]
 fn piped<'p>(step: &Step<'p>) -> Option<&'p Tree>
     ensures { IfSome result (λ t. (p : abstract.Scope) → step_in step.now p ≡ abstract.pipe_into (named t.now) p) }
 {

@@ -8,13 +8,11 @@ ghost use Rattle.jq_meaning.specs.Runs as runs;
 ghost use Rattle.jq_machine.specs.State as abstract;
 ghost use Rattle.jq_state.specs.Environments.{count_of};
 ghost use Rattle.jq_state.specs.Items.{item_of};
-ghost use Rattle.jq_state.specs.Links.{scope_in};
 ghost use Rattle.jq_state.specs.Steps.{step_in};
-ghost use Rattle.jq_state.specs.Views.{envs_in, frames_in, forks_in};
 ghost use Rattle.jq_shapes.specs.Names.{HasPut};
 ghost use Rattle.jq_tree.specs.Tree as form;
 ghost use Rattle.jq_shapes.specs.Turn.{changed};
-ghost use Rattle.jq_engine.specs.private.Leading.{Leads};
+ghost use Rattle.jq_engine.specs.private.Leading.{Leads, at_filter, at_step, at_item};
 ghost use Rattle.jq_engine.specs.private.UpdateEnds.{EndsTurn, IsAround, IsInTurn, KeepsPart, WaitsForPart};
 
 use jq_ast::Tree;
@@ -52,7 +50,7 @@ pub(crate) fn hand_on<'p>(
     state: &mut State<'p>,
     item: Item,
 ) -> Result<Progress<'p>, NoMemory>
-    ensures { IfOk result (λ r. (inputs : Run Value) → Leads inputs (abstract.state (abstract.give (item_of item)) (frames_in inputs state.old) (forks_in inputs state.old)) state.new r) }
+    ensures { IfOk result (λ r. (inputs : Run Value) → Leads inputs (at_item inputs state.old (item_of item)) state.new r) }
 {
     match state.take(alloc)? {
         Some((step, scope)) => receive_output(alloc, state, step, scope, item),
@@ -69,7 +67,7 @@ pub(crate) fn receive_output<'p>(
     item: Item,
 ) -> Result<Progress<'p>, NoMemory>
     requires { scope.env < count_of state.old.nodes }
-    ensures { IfOk result (λ r. (inputs : Run Value) → Leads inputs (abstract.state (abstract.give (item_of item)) (step_in step.entry (scope_in (envs_in inputs state.old) scope) ∷ frames_in inputs state.old) (forks_in inputs state.old)) state.new r) }
+    ensures { IfOk result (λ r. (inputs : Run Value) → Leads inputs (at_step inputs state.old step.entry scope (item_of item)) state.new r) }
 {
     match turn_of(state, &step, scope)? {
         Some(turn) => {
@@ -188,7 +186,7 @@ fn end_turn<'p>(
     turn: UpdateEnd,
     item: Item,
 ) -> Result<Progress<'p>, NoMemory>
-    ensures { (w : Step) (p : Scope) → EndsTurn state.old w p turn → IfOk result (λ r. (inputs : Run Value) → Leads inputs (abstract.state (abstract.give (item_of item)) (step_in w (scope_in (envs_in inputs state.old) p) ∷ frames_in inputs state.old) (forks_in inputs state.old)) state.new r) }
+    ensures { (w : Step) (p : Scope) → EndsTurn state.old w p turn → IfOk result (λ r. (inputs : Run Value) → Leads inputs (at_step inputs state.old w p (item_of item)) state.new r) }
 {
     let UpdateEnd { setting, around } = turn;
     let Item { value, path } = item;
@@ -235,7 +233,7 @@ pub(crate) fn end_without_part<'p>(
     state: &mut State<'p>,
     turn: UpdateEnd,
 ) -> Result<Progress<'p>, NoMemory>
-    ensures { (t : form.Tree) (p : Scope) (x : runs.Item) → KeepsPart state.old t p x turn → IfOk result (λ r. (inputs : Run Value) → Leads inputs (abstract.state (abstract.evaluate t (scope_in (envs_in inputs state.old) p) x) (frames_in inputs state.old) (forks_in inputs state.old)) state.new r) }
+    ensures { (t : form.Tree) (p : Scope) (x : runs.Item) → KeepsPart state.old t p x turn → IfOk result (λ r. (inputs : Run Value) → Leads inputs (at_filter inputs state.old t p x) state.new r) }
 {
     let UpdateEnd { setting, around } = turn;
     state.skip();

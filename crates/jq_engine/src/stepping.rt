@@ -1,25 +1,19 @@
 // One step: a transition, or several where filters run at once.
-ghost use Rattle.std.specs.Prelude.{◌<◌, IfOk};
+ghost use Rattle.std.specs.Prelude.{IfOk};
 ghost use Rattle.jq_state.specs.Environments.{count_of};
 ghost use Rattle.jq_state.specs.Inputs.{inputs_of};
-ghost use Rattle.jq_ast.specs.Named.{named};
 ghost use Rattle.jq_machine.specs.State as abstract;
 ghost use Rattle.jq_state.specs.Items.{item_of};
-ghost use Rattle.jq_state.specs.Links.{scope_in};
 ghost use Rattle.jq_state.specs.Nexts.{NextFits, stands};
-ghost use Rattle.jq_state.specs.Views.{envs_in, frames_in, forks_in};
-ghost use Rattle.jq_engine.specs.private.Leading.{Leads};
+ghost use Rattle.jq_engine.specs.private.Leading.{Leads, at_item};
 
-use crate::at_once::run_at_once;
 use crate::folds::{run_step, top_step};
 use crate::guards::Guard;
-use crate::parts::begin;
 use crate::passing::go_back;
-use crate::putting::{end_without_part, hand_on, kept_turn};
-use jq_ast::Tree;
+use crate::putting::hand_on;
+use crate::tails::evaluate;
 use jq_backtracking::{Ending, Progress, leave, raise};
 use jq_receive::{match_later, match_pattern};
-use jq_state::frames::Scope;
 use jq_state::inputs::Inputs;
 use jq_state::items::Item;
 use jq_state::next::Next;
@@ -59,49 +53,6 @@ pub(crate) fn step<'p>(
     }
 }
 
-// A filter runs at once where no path is asked for, if it may have at most one output. The end of a turn of an update that keeps its
-// path does so in place.
-fn evaluate<'p>(
-    alloc: Global,
-    state: &mut State<'p>,
-    tree: &'p Tree,
-    scope: Scope,
-    input: Item,
-    inputs: &Inputs,
-    guard: &mut Guard,
-) -> Result<Progress<'p>, NoMemory>
-    requires { scope.env < count_of state.old.nodes }
-    ensures { IfOk result (Leads (inputs_of inputs.now) (abstract.state (abstract.evaluate (named tree.now) (scope_in (envs_in (inputs_of inputs.now) state.old) scope) (item_of input)) (frames_in (inputs_of inputs.now) state.old) (forks_in (inputs_of inputs.now) state.old)) state.new) }
-{
-    if let Some(turn) = kept_turn(state, tree, scope, &input)? {
-        // It holds the value too.
-        drop(input);
-        return end_without_part(alloc, state, turn);
-    }
-    run_or_begin(alloc, state, tree, scope, input, inputs, guard)
-}
-
-fn run_or_begin<'p>(
-    alloc: Global,
-    state: &mut State<'p>,
-    tree: &'p Tree,
-    scope: Scope,
-    input: Item,
-    inputs: &Inputs,
-    guard: &mut Guard,
-) -> Result<Progress<'p>, NoMemory>
-    requires { scope.env < count_of state.old.nodes }
-    ensures { IfOk result (Leads (inputs_of inputs.now) (abstract.state (abstract.evaluate (named tree.now) (scope_in (envs_in (inputs_of inputs.now) state.old) scope) (item_of input)) (frames_in (inputs_of inputs.now) state.old) (forks_in (inputs_of inputs.now) state.old)) state.new) }
-{
-    if guard.tries(tree, &input) {
-        match run_at_once(alloc, state, tree, scope, input.value, inputs, guard)? {
-            Some(progress) => return Ok(progress),
-            None => return go_back(alloc, state, inputs, guard),
-        }
-    }
-    begin(alloc, state, tree, scope, input, inputs, guard)
-}
-
 // An item goes to the first frame that waits. If that is a fold with one variable, its update may run at once.
 fn deliver<'p>(
     alloc: Global,
@@ -110,7 +61,7 @@ fn deliver<'p>(
     inputs: &Inputs,
     guard: &mut Guard,
 ) -> Result<Progress<'p>, NoMemory>
-    ensures { IfOk result (Leads (inputs_of inputs.now) (abstract.state (abstract.give (item_of item)) (frames_in (inputs_of inputs.now) state.old) (forks_in (inputs_of inputs.now) state.old)) state.new) }
+    ensures { IfOk result (Leads (inputs_of inputs.now) (at_item (inputs_of inputs.now) state.old (item_of item)) state.new) }
 {
     if let Some((step, scope)) = top_step(state) {
         state.skip();

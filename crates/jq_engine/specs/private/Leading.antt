@@ -1,5 +1,5 @@
 -- What a step comes to where filters of at most one output run at once.
-use Rattle.std.specs.Prelude.{◌≡◌, ◌∷◌, List, Option, Some, None}
+use Rattle.std.specs.Prelude.{◌≡◌, ◌∷◌, List, Option, Some, None, Result, IfOk}
 use Rattle.jv_meaning.specs.Value.{Value}
 use Rattle.jq_tree.specs.Tree.{Tree}
 use Rattle.jq_meaning.specs.Meaning.{meaning}
@@ -9,7 +9,8 @@ use Rattle.jq_machine.specs.Machine.{step}
 use Rattle.jq_machine.specs.Operations.{ending_next}
 use Rattle.jq_machine.specs.State.{Frame, ForkPoint, state, evaluate, give, moves}
 use Rattle.jq_machine.specs.State as machine
-use Rattle.jq_single.specs.Single.{Ends}
+use Rattle.jv_data.specs.declared.failures.NoMemory.{NoMemory}
+use Rattle.jq_single.specs.Single.{Ends, Leaves}
 use Rattle.jq_single.specs.declared.stops.Stop.{Stop}
 use Rattle.jq_state.specs.Links.{scope_in}
 use Rattle.jq_state.specs.Nexts.{stands}
@@ -50,6 +51,20 @@ GoesOn inputs before s (Some r) = Leads inputs before s r
 abbrev pub LeadsAfter : Run Value → (first : machine.State) → State → Progress → Type 0
 LeadsAfter inputs first s r = (before : machine.State) → step before ≡ moves first → Leads inputs before s r
 
+-- ---- items
+
+-- The state in which an item is given.
+abbrev pub at_item : Run Value → State → Item → machine.State
+at_item inputs s x = state (give x) (frames_in inputs s) (forks_in inputs s)
+
+-- The same where a frame waits for the item before the others.
+abbrev pub at_frame : Run Value → State → Frame → Item → machine.State
+at_frame inputs s f x = state (give x) (f ∷ frames_in inputs s) (forks_in inputs s)
+
+-- The same where the frame has this step in this scope.
+abbrev pub at_step : Run Value → State → Step → Scope → Item → machine.State
+at_step inputs s w p x = at_frame inputs s (step_in w (scope_in (envs_in inputs s) p)) x
+
 -- ---- filters of which a part is run first
 
 -- The state in which a filter is evaluated in a scope on an item.
@@ -63,3 +78,8 @@ at_part inputs s t waits p x = let q = scope_in (envs_in inputs s) p in state (e
 -- A filter was run at once in a scope on a value, and had no output.
 abbrev pub HasStopped : Run Value → State → Tree → Scope → Value → Stop → Type 0
 HasStopped inputs s t p v stop = Ends stop (meaning p.depth t (env_at (envs_in inputs s) p.env) p.level (plain v))
+
+-- What waits for a part that had no output, or was not run at once, goes on.
+abbrev pub GoesOnAfter : Run Value → (before after : State) → Tree → Step → Scope → Stop → Value → Result Progress NoMemory → Type 0
+GoesOnAfter inputs before after t waits p stop left result =
+    (v : Value) → HasStopped inputs before t p v stop → Leaves stop v left → IfOk result (LeadsAfter inputs (at_part inputs before t waits p (plain v)) after)
