@@ -24,4 +24,5 @@ returns-clause-ok c =
     ∙ ap (λ b. print written ++ print_from b left) c.finish-text.ensures.place ∙ line_resumed place written left all resumed in
     let done = c.in_ok-append_after.ensures.ok in
     let text = c.as_slice.result.now in
-    (drop c.skipped.result text, done.1, after_front text (print (replayed place)) after rest c.skipped.result done.0 (sym len) same)
+    let skipped = length c.as_slice-skipped.result.now in
+    (drop skipped text, done.1, after_front text (print (replayed place)) after rest skipped done.0 (sym len) same)
