@@ -1,7 +1,5 @@
-use Rattle.std.proofs.Common.{◌≡◌, ◌∙◌, List, [], ◌++◌, ap, sym, drop, length}
-use Rattle.json.specs.Layout.{is_value, pretty, pretty_from, state_after}
-use Rattle.json.specs.Print.{ends_value, print, print_from}
-use Rattle.json.specs.Token.{Token}
+use Rattle.std.proofs.Common.{◌≡◌, ◌∙◌, [], ◌++◌, ap, sym, drop, length}
+use Rattle.json.specs.Layout.{pretty, pretty_from}
 use Rattle.jv_text.specs.Places.{place_of, replayed}
 use Rattle.jv_text.specs.PrintedTokens.{open_tokens}
 use Rattle.jv_text.proofs.Resumed.{after_front, lines_resumed}
