@@ -1,13 +1,12 @@
 // Objects under `+` and `*`.
-ghost use Rattle.std.specs.Prelude.{◌≡◌, IfOk, MatchOption, OnOk, String};
+ghost use Rattle.std.specs.Prelude.{◌≡◌, IfOk, OnOk, String};
 ghost use Rattle.std.specs.declared.alloc.Global.{Global};
 ghost use Rattle.std.specs.Str.{chars};
 ghost use Rattle.jv_data.specs.Held.{members_in};
 ghost use Rattle.jv_meaning.specs.Members.{member_or_null};
-ghost use Rattle.jv_meaning.specs.Value.{object};
 ghost use Rattle.jv_data.specs.View.{members_view, view};
 ghost use Rattle.jv_arith.specs.Objects.{union, deep_union, united};
-ghost use Rattle.jv_arith.specs.private.Uniting.{after, leads_to, unite_all};
+ghost use Rattle.jv_arith.specs.private.Uniting.{IsUnion, after, leads_to, unite_all};
 
 use jv_data::{Iter, Object, Val};
 use std::alloc::{AllocError, Global};
@@ -154,9 +153,7 @@ fn objects_at<'a>(
     key: &str,
     value: &'a Val,
 ) -> Result<Option<(Object<Val>, &'a Object<Val>)>, AllocError>
-    ensures { IfOk result (λ found. MatchOption found
-        (view value.now ≡ united (member_or_null (chars key.now) (members_in members.now)) (view value.now))
-        (λ pair. object (deep_union (members_in pair.0) (members_in pair.1.now)) ≡ united (member_or_null (chars key.now) (members_in members.now)) (view value.now))) }
+    ensures { IfOk result (λ found. IsUnion found (member_or_null (chars key.now) (members_in members.now)) (view value.now)) }
 {
     match (members.get(key), value) {
         (Some(Val::Table(left)), Val::Table(right)) => Ok(Some((left.share()?, right))),

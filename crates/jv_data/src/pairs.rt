@@ -1,10 +1,9 @@
 // Two containers that are compared part by part. What is open is in a list, so that depth takes no stack.
 ghost use Rattle.std.specs.Prelude.{◌≡◌, IfSome, MatchResult, String};
 ghost use Rattle.std.specs.declared.alloc.Global.{Global};
-ghost use Rattle.std.specs.Ordering.{ordering_then};
 ghost use Rattle.jv_meaning.specs.Value.{compare, compare_items, compare_members};
 ghost use Rattle.jv_data.specs.View.{view, items_view, members_view};
-ghost use Rattle.jv_data.specs.private.Pairs.{parts_order};
+ghost use Rattle.jv_data.specs.private.Pairs.{parts_order, told_order};
 
 use crate::ordering::{order_keys, rank};
 use crate::{Iter, Val};
@@ -69,9 +68,7 @@ pub(crate) fn pair_of<'a>(left: &'a Val, right: &'a Val) -> Result<Pair<'a>, Ord
 
 // The next part of each and what is left after them, or the order if one of them has no more parts.
 fn next_parts<'a>(pair: Pair<'a>) -> Result<(&'a Val, &'a Val, Pair<'a>), Ordering>
-    ensures { MatchResult result
-        (λ p. parts_order pair.entry ≡ ordering_then (compare (view p.0.now) (view p.1.now)) (parts_order p.2))
-        (λ o. o ≡ parts_order pair.entry) }
+    ensures { told_order result ≡ parts_order pair.entry }
 {
     match pair {
         Pair::Items(left, right) => next_items(left, right),
@@ -83,9 +80,7 @@ fn next_items<'a>(
     left: &'a [Val],
     right: &'a [Val],
 ) -> Result<(&'a Val, &'a Val, Pair<'a>), Ordering>
-    ensures { MatchResult result
-        (λ p. compare_items (items_view left.now) (items_view right.now) ≡ ordering_then (compare (view p.0.now) (view p.1.now)) (parts_order p.2))
-        (λ o. o ≡ compare_items (items_view left.now) (items_view right.now)) }
+    ensures { told_order result ≡ compare_items (items_view left.now) (items_view right.now) }
 {
     match left.split_first() {
         None => match right.split_first() {
@@ -103,9 +98,7 @@ fn next_members<'a>(
     left: Iter<'a, Val>,
     right: Iter<'a, Val>,
 ) -> Result<(&'a Val, &'a Val, Pair<'a>), Ordering>
-    ensures { MatchResult result
-        (λ p. compare_members (members_view left.entry) (members_view right.entry) ≡ ordering_then (compare (view p.0.now) (view p.1.now)) (parts_order p.2))
-        (λ o. o ≡ compare_members (members_view left.entry) (members_view right.entry)) }
+    ensures { told_order result ≡ compare_members (members_view left.entry) (members_view right.entry) }
 {
     let mut members = left;
     let mut others = right;

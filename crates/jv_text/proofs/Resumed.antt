@@ -1,16 +1,16 @@
 -- A text that is interrupted between two tokens, and goes on after the same place.
-use Rattle.std.proofs.Common.{zero, suc, ◌≡◌, ◌∙◌, ℕ, ◌+◌, ◌-◌, ◌^◌, ◌≤◌, ◌<◌, List, [], ◌∷◌, ◌++◌, min, replicate, length, drop, fold, refl, sym, ap, append_assoc, Result, Ok, Err, is_ok, OnOk, Bool, if◌then◌else◌, ◌||◌, append-nil, true, false, arith}
+use Rattle.std.proofs.Common.{zero, suc, ◌≡◌, ◌∙◌, ℕ, ◌+◌, ◌-◌, ◌^◌, ◌≤◌, ◌<◌, List, [], ◌∷◌, ◌++◌, min, replicate, length, drop, fold, refl, sym, ap, append_assoc, Result, Ok, Err, is_ok, OnOk, Bool, if◌then◌else◌, append-nil, true, false, arith}
 use Rattle.std.proofs.lemmas.List.{drop-append-le, drop_at}
 use Rattle.std.proofs.lemmas.List.Sums.{fold_push}
 use Rattle.json.specs.Layout.{Last, nothing, bracket, name, value, is_value, step, piece, pretty, pretty_from, state_after}
-use Rattle.json.specs.Print.{ends, ends_value, print, print_from}
+use Rattle.json.specs.Print.{ends_value, print, print_from}
 use Rattle.json.specs.Token.{Token, begin_array, key, null}
 use Rattle.json.proofs.Printed.Tokens.{print_from-append, ends_push}
 use Rattle.jv_meaning.specs.Value.{Value as Data}
 use Rattle.jv_text.specs.Printed.{compact, laid_out, pretty as pretty_text, tokens_of}
 use Rattle.jv_text.specs.declared.nested.Open.{Open}
 use Rattle.jv_text.specs.declared.printing.Style.{Style}
-use Rattle.jv_text.specs.Pieces.{line_end, text_from}
+use Rattle.jv_text.specs.Pieces.{text_from}
 use Rattle.jv_text.specs.PrintedTokens.{open_tokens}
 use Rattle.jv_text.proofs.Spelt.{print-tokens_of}
 use Rattle.jv_text.specs.Places.{place_of, replayed}

@@ -22,7 +22,6 @@ use Rattle.jv_text.specs.Json.{value_of, items_of as read_items, members_of as r
 use Rattle.jv_text.specs.private.PlainTokens.{IsPlainNumber}
 use Rattle.jv_text.specs.private.Tokens.{IsValueRead, AreItemsRead, AreMembersRead}
 use Rattle.jv_text.specs.Plain.{plain_value}
-use Rattle.jv_text.proofs.Fronts.{Entry}
 use Rattle.jv_text.proofs.PlainTexts.{plain_of}
 
 -- ---- a value with nothing inside

@@ -7,3 +7,4 @@ pub mod Unreadable
 pub mod Runs
 pub mod PlainTokens
 pub mod Met
+pub mod Pieces

@@ -1,9 +1,10 @@
 // The tokens of values that are nested deep. What is open is in a list, so that depth takes no stack.
-ghost use Rattle.std.specs.Prelude.{◌≡◌, ◌++◌, ◌∷◌, [], IfOk, OnOk, MatchOption, List, String};
+ghost use Rattle.std.specs.Prelude.{◌≡◌, ◌++◌, ◌∷◌, [], IfOk, OnOk, List, String};
 ghost use Rattle.std.specs.declared.alloc.Global.{Global};
 ghost use Rattle.jv_data.specs.View.{view};
 ghost use Rattle.jv_text.specs.Printed.{tokens_of};
 ghost use Rattle.jv_text.specs.PrintedTokens.{open_tokens, rest_tokens};
+ghost use Rattle.jv_text.specs.private.Pieces.{tokens_left};
 
 use crate::printing::write_number;
 use crate::sinks::Tokens;
@@ -85,9 +86,7 @@ pub(crate) fn next_value<'a, W: Tokens>(
     opened: &mut Vec<Open<'a>>,
     out: &mut W,
 ) -> Result<Option<&'a Val>, AllocError>
-    ensures ok { IfOk result (λ next. MatchOption next
-        (W.Tokens.written out.new ++ open_tokens opened.new.items [] ≡ W.Tokens.written out.old ++ (rest_tokens container.entry ++ open_tokens opened.old.items []))
-        (λ value. W.Tokens.written out.new ++ (tokens_of (view value.now) ++ open_tokens opened.new.items []) ≡ W.Tokens.written out.old ++ (rest_tokens container.entry ++ open_tokens opened.old.items []))) }
+    ensures ok { IfOk result (λ next. W.Tokens.written out.new ++ tokens_left next opened.new.items ≡ W.Tokens.written out.old ++ (rest_tokens container.entry ++ open_tokens opened.old.items [])) }
     ensures before { W.Tokens.before out.new ≡ W.Tokens.before out.old }
 {
     match container {

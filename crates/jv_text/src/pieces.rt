@@ -1,10 +1,11 @@
 // Printing large values piece by piece.
-ghost use Rattle.std.specs.Prelude.{◌≡◌, ◌++◌, [], List, ℕ, true, false, if◌then◌else◌, length, IfOk, IfSome, OnOk, OnErr};
+ghost use Rattle.std.specs.Prelude.{◌≡◌, ◌++◌, ◌≤◌, [], List, ℕ, true, false, if◌then◌else◌, drop, length, IfOk, IfSome, OnOk, OnErr};
 ghost use Rattle.json.specs.Layout.{pretty};
 ghost use Rattle.jv_data.specs.View.{view};
 ghost use Rattle.std.specs.Bool.{OnTrue};
 ghost use Rattle.jv_text.specs.Printed.{bytes_or, laid_out, printed, tokens_of};
 ghost use Rattle.jv_text.specs.Pieces.{line_end, text_from};
+ghost use Rattle.jv_text.specs.private.Pieces.{AppendsPiece};
 ghost use Rattle.jv_text.specs.Places.{replayed};
 ghost use Rattle.jv_text.specs.PrintedTokens.{open_tokens, rest_tokens};
 
@@ -70,7 +71,7 @@ impl<'a> Printer<'a> {
 
     // The bytes that were appended before memory ran out stay.
     fn append_next(&mut self, alloc: Global, out: &mut Vec<u8>) -> Result<bool, AllocError>
-        ensures ok { IfOk result (λ more. (piece : List ℕ) × (out.new.items ≡ out.old.items ++ piece) × (self.old ≡ piece ++ (if more then self.new else []))) }
+        ensures ok { IfOk result (λ more. AppendsPiece out.old.items out.new.items self.old (if more then self.new else [])) }
         ensures front { (more : List ℕ) × (out.new.items ≡ out.old.items ++ more) }
     {
         self.place = append_piece(alloc, &mut self.opened, self.place, self.style.compact, out)?;
@@ -123,7 +124,7 @@ fn append_piece<'a>(
     compact: bool,
     out: &mut Vec<u8>,
 ) -> Result<Place, AllocError>
-    ensures ok { IfOk result (λ next. (piece : List ℕ) × (out.new.items ≡ out.old.items ++ piece) × (text_from compact place (open_tokens opened.old.items []) ≡ piece ++ text_from compact next (open_tokens opened.new.items []))) }
+    ensures ok { IfOk result (λ next. AppendsPiece out.old.items out.new.items (text_from compact place (open_tokens opened.old.items [])) (text_from compact next (open_tokens opened.new.items []))) }
     ensures front { (more : List ℕ) × (out.new.items ≡ out.old.items ++ more) }
 {
     if compact {
@@ -139,7 +140,7 @@ fn append_line<'a>(
     place: Place,
     out: &mut Vec<u8>,
 ) -> Result<Place, AllocError>
-    ensures ok { IfOk result (λ next. (piece : List ℕ) × (out.new.items ≡ out.old.items ++ piece) × (text_from true place (open_tokens opened.old.items []) ≡ piece ++ text_from true next (open_tokens opened.new.items []))) }
+    ensures ok { IfOk result (λ next. AppendsPiece out.old.items out.new.items (text_from true place (open_tokens opened.old.items [])) (text_from true next (open_tokens opened.new.items []))) }
     ensures front { (more : List ℕ) × (out.new.items ≡ out.old.items ++ more) }
 {
     let mut before = Line::new(alloc, 0)?;
@@ -160,7 +161,7 @@ fn append_lines<'a>(
     place: Place,
     out: &mut Vec<u8>,
 ) -> Result<Place, AllocError>
-    ensures ok { IfOk result (λ next. (piece : List ℕ) × (out.new.items ≡ out.old.items ++ piece) × (text_from false place (open_tokens opened.old.items []) ≡ piece ++ text_from false next (open_tokens opened.new.items []))) }
+    ensures ok { IfOk result (λ next. AppendsPiece out.old.items out.new.items (text_from false place (open_tokens opened.old.items [])) (text_from false next (open_tokens opened.new.items []))) }
     ensures front { (more : List ℕ) × (out.new.items ≡ out.old.items ++ more) }
 {
     let mut before = Lines::new(alloc);
@@ -177,7 +178,7 @@ fn append_lines<'a>(
 
 // Appends the bytes of a text after the first ones. A text has these always.
 fn append_after(text: &[u8], skipped: usize, out: &mut Vec<u8>) -> Result<(), AllocError>
-    ensures ok { OnOk result ((piece : List ℕ) × (out.new.items ≡ out.old.items ++ piece) × ((front after rest : List ℕ) → length front ≡ skipped → text.now ++ after ≡ front ++ rest → rest ≡ piece ++ after)) }
+    ensures ok { OnOk result ((skipped ≤ length text.now) × (out.new.items ≡ out.old.items ++ drop skipped text.now)) }
     ensures front { (more : List ℕ) × (out.new.items ≡ out.old.items ++ more) }
 {
     match text.get(skipped..) {

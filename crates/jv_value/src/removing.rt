@@ -1,14 +1,13 @@
 // A value without the parts at some locations.
-ghost use Rattle.std.specs.Prelude.{◌≡◌, ◌++◌, ◌∷◌, [], IfOk, List, MatchOption, OnOk, map};
+ghost use Rattle.std.specs.Prelude.{◌≡◌, ◌∷◌, [], IfOk, OnOk, map};
 ghost use Rattle.std.specs.Str.{chars};
 ghost use Rattle.jv_data.specs.Held.{members_in};
-ghost use Rattle.jv_meaning.specs.Members.{put};
 ghost use Rattle.jv_meaning.specs.Value.{Value};
 ghost use Rattle.jv_data.specs.View.{view};
-ghost use Rattle.jv_value.specs.private.ItemGroups.{grouped_from, groups_in};
-ghost use Rattle.jv_value.specs.private.Removals.{GoesOn, GroupsLeave, Leaves, LeavesMember, items_with};
+ghost use Rattle.jv_value.specs.private.ItemGroups.{AddsLocation, grouped_from, groups_in};
+ghost use Rattle.jv_value.specs.private.Removals.{GoesOn, GroupsLeave, Leaves, TakesMember, items_with};
 ghost use Rattle.jv_value.specs.DeletePaths.{names_itself, removed, without_locations};
-ghost use Rattle.jv_value.specs.Locations.{Location, at};
+ghost use Rattle.jv_value.specs.Locations.{at};
 ghost use Rattle.jv_value.specs.private.Locations.{location_in, locations_in};
 
 use crate::grouping::by_name;
@@ -183,10 +182,7 @@ fn taken_out(
     name: &str,
     locations: &[Location],
 ) -> Result<Option<Val>, AllocError>
-    ensures { IfOk result (λ o. MatchOption o
-        (LeavesMember (chars name.now) (locations_in locations.now) (members_in members.old) (members_in members.new))
-        (λ part. LeavesMember (chars name.now) (locations_in locations.now) (members_in members.old)
-        (put (chars name.now) (without_locations (locations_in locations.now) (view part)) (members_in members.new)))) }
+    ensures { IfOk result (λ part. TakesMember (chars name.now) (locations_in locations.now) part (members_in members.old) (members_in members.new)) }
 {
     // The proof needs the clause of `len` that the keys are in order.
     if members.len() == 0 {
@@ -230,7 +226,7 @@ fn ungrouped(alloc: Global, items: Vec<Val>) -> Result<Vec<ItemGroup>, AllocErro
 }
 
 fn add_location(groups: &mut Vec<ItemGroup>, location: Location) -> Result<(), AllocError>
-    ensures { OnOk result ((qs : List Location) (vs : List Value) → groups_in groups.old.items ≡ grouped_from qs 0 vs → groups_in groups.new.items ≡ grouped_from (qs ++ location_in location ∷ []) 0 vs) }
+    ensures { OnOk result (AddsLocation (location_in location) groups.old.items groups.new.items) }
 {
     let mut rest = location;
     match rest.pop() {
@@ -241,7 +237,7 @@ fn add_location(groups: &mut Vec<ItemGroup>, location: Location) -> Result<(), A
 }
 
 fn add_to_item(groups: &mut Vec<ItemGroup>, index: usize, rest: Location) -> Result<(), AllocError>
-    ensures { OnOk result ((qs : List Location) (vs : List Value) → groups_in groups.old.items ≡ grouped_from qs 0 vs → groups_in groups.new.items ≡ grouped_from (qs ++ (at index ∷ location_in rest) ∷ []) 0 vs) }
+    ensures { OnOk result (AddsLocation (at index ∷ location_in rest) groups.old.items groups.new.items) }
 {
     if index < groups.len() {
         let target = &mut groups[index];

@@ -7,9 +7,9 @@ ghost use Rattle.jv_meaning.specs.Members.{put};
 ghost use Rattle.jv_meaning.specs.Value.{Value, array, items_of, null, number, object, string};
 ghost use Rattle.jv_meaning.specs.Text.{text_of};
 ghost use Rattle.jv_data.specs.View.{view};
-ghost use Rattle.jv_value.specs.private.Frames.{TakesPart, put_into, put_into_all};
+ghost use Rattle.jv_value.specs.private.Frames.{TakesOut, put_into, put_into_all};
 ghost use Rattle.jv_value.specs.Index.{item_at, slice_key};
-ghost use Rattle.jv_value.specs.SetPath.{filled, part_at, put_between, put_item, setpath_of};
+ghost use Rattle.jv_value.specs.SetPath.{filled, put_between, put_item, setpath_of};
 
 use crate::error_texts::{
     cannot_index, index_before_start, index_too_large, not_slice_bounds, slice_needs_array,
@@ -64,9 +64,7 @@ fn put_all_back(alloc: Global, frames: Vec<Frame>, part: Val) -> Result<Val, Fai
 }
 
 fn take_part(alloc: Global, value: Val, key: &Val) -> Result<(Val, Frame), Fail>
-    ensures { MatchResult result
-        (λ r. TakesPart (view value) (view key.now) (view r.0) r.1)
-        (λ f. FailsAs f (part_at (view value) (view key.now))) }
+    ensures { TakesOut (view value) (view key.now) result }
 {
     match key {
         Val::Text(name) => take_member(alloc, value, key, name.as_str()),
@@ -78,9 +76,7 @@ fn take_part(alloc: Global, value: Val, key: &Val) -> Result<(Val, Frame), Fail>
 
 fn take_member(alloc: Global, value: Val, key: &Val, name: &str) -> Result<(Val, Frame), Fail>
     requires { view key.now ≡ string (chars name.now) }
-    ensures { MatchResult result
-        (λ r. TakesPart (view value) (view key.now) (view r.0) r.1)
-        (λ f. FailsAs f (part_at (view value) (view key.now))) }
+    ensures { TakesOut (view value) (view key.now) result }
 {
     match &value {
         Val::Null => {
@@ -100,9 +96,7 @@ fn take_member(alloc: Global, value: Val, key: &Val, name: &str) -> Result<(Val,
 
 fn take_item(alloc: Global, value: Val, key: &Val, place: &i64) -> Result<(Val, Frame), Fail>
     requires { view key.now ≡ number place.now }
-    ensures { MatchResult result
-        (λ r. TakesPart (view value) (view key.now) (view r.0) r.1)
-        (λ f. FailsAs f (part_at (view value) (view key.now))) }
+    ensures { TakesOut (view value) (view key.now) result }
 {
     match &value {
         Val::Null => Ok((Val::Null, Frame::Item(Vec::new(alloc), *place))),
@@ -133,9 +127,7 @@ fn take_slice(
     bounds: &Object<Val>,
 ) -> Result<(Val, Frame), Fail>
     requires { view key.now ≡ object (members_in bounds.now) }
-    ensures { MatchResult result
-        (λ r. TakesPart (view value) (view key.now) (view r.0) r.1)
-        (λ f. FailsAs f (part_at (view value) (view key.now))) }
+    ensures { TakesOut (view value) (view key.now) result }
 {
     let null = Val::Null;
     let (start, end) = bounds_in(bounds, &null);
@@ -154,9 +146,7 @@ fn take_slice(
 }
 
 fn take_empty_slice(alloc: Global, start: &Val, end: &Val) -> Result<(Val, Frame), Fail>
-    ensures { MatchResult result
-        (λ r. TakesPart null (slice_key (view start.now) (view end.now)) (view r.0) r.1)
-        (λ f. FailsAs f (part_at null (slice_key (view start.now) (view end.now)))) }
+    ensures { TakesOut null (slice_key (view start.now) (view end.now)) result }
 {
     match range_of(0, start, end) {
         Some(_) => Ok((Val::Null, Frame::Slice(Vec::new(alloc), Vec::new(alloc)))),
@@ -170,9 +160,7 @@ fn take_items(
     start: &Val,
     end: &Val,
 ) -> Result<(Val, Frame), Fail>
-    ensures { MatchResult result
-        (λ r. TakesPart (array (items_of (values_in items))) (slice_key (view start.now) (view end.now)) (view r.0) r.1)
-        (λ f. FailsAs f (part_at (array (items_of (values_in items))) (slice_key (view start.now) (view end.now)))) }
+    ensures { TakesOut (array (items_of (values_in items))) (slice_key (view start.now) (view end.now)) result }
 {
     let Some((from, to)) = range_of(items.len(), start, end) else {
         return Err(not_slice_bounds(alloc));

@@ -1,5 +1,5 @@
 -- The items, the members and the bytes of a value in the code, from what it represents.
-use Rattle.std.proofs.Common.{◌≡◌, ◌∙◌, suc, List, [], ◌∷◌, length, map, String, Global, string_bytes, refl, ap}
+use Rattle.std.proofs.Common.{◌≡◌, ◌∙◌, suc, List, [], ◌∷◌, length, map, String, Global, refl, ap}
 use Rattle.std.proofs.lemmas.List.{length-map}
 use Rattle.std.proofs.lemmas.Str.{encodes-chars, IsUtf8-had, IsUtf8-string_bytes}
 use Rattle.std.specs.Prelude.{encode_utf8_all, IsUtf8}

@@ -1,10 +1,13 @@
 -- A value whose part at a key was taken out.
-use Rattle.std.specs.Prelude.{◌≡◌, ◌∷◌, [], List, map, Result, Ok, Err}
+use Rattle.std.specs.Prelude.{◌≡◌, ◌∷◌, [], List, map, Result, Ok, Err, MatchResult}
+use Rattle.jv_data.specs.Fails.{FailsAs}
 use Rattle.jv_data.specs.Held.{members_in}
 use Rattle.jv_meaning.specs.Members.{put}
 use Rattle.jv_meaning.specs.Value.{Value, object}
 use Rattle.jv_meaning.specs.Text.{text_of}
 use Rattle.jv_data.specs.View.{view}
+use Rattle.jv_data.specs.declared.failures.Fail.{Fail}
+use Rattle.jv_data.specs.declared.values.Val.{Val}
 use Rattle.jv_value.specs.Results.{and_then}
 use Rattle.jv_value.specs.SetPath.{part_at, put_at, put_between, put_item}
 use Rattle.jv_value.specs.declared.setting.Frame.{Frame}
@@ -26,3 +29,7 @@ put_into_all (f ∷ fs) p = and_then (put_into_all fs p) (put_into f)
 pub record TakesPart (v k part : Value) (frame : Frame) : Type 0 where
   pub taken : part_at v k ≡ Ok part
   pub back : (p : Value) → put_into frame p ≡ put_at v k p
+
+-- a call takes the part at a key out of a value, or raises the key's error, or memory ran out
+abbrev pub TakesOut : Value → Value → Result (Val × Frame) Fail → Type 0
+TakesOut v k result = MatchResult result (λ r. TakesPart v k (view r.0) r.1) (λ f. FailsAs f (part_at v k))

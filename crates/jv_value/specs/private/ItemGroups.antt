@@ -1,5 +1,5 @@
 -- Locations grouped by the items that they are in.
-use Rattle.std.specs.Prelude.{ℕ, ◌+◌, List, [], ◌∷◌, map, Bool, false, if◌then◌else◌}
+use Rattle.std.specs.Prelude.{◌≡◌, ℕ, ◌+◌, List, [], ◌∷◌, ◌++◌, map, Bool, false, if◌then◌else◌}
 use Rattle.jv_meaning.specs.Value.{Value}
 use Rattle.jv_data.specs.View.{view}
 use Rattle.jv_value.specs.DeletePaths.{same_selector, following, names_itself, without_locations}
@@ -14,6 +14,10 @@ groups_in xs = map (λ a. (view a.item, locations_in a.locations.items)) xs
 abbrev pub grouped_from : List Location → ℕ → List Value → List (Value × List Location)
 grouped_from qs i [] = []
 grouped_from qs i (v ∷ vs) = (v, following (at i) qs) ∷ grouped_from qs (i + 1) vs
+
+-- the new groups hold the locations that the old ones hold, and q, in the same items
+abbrev pub AddsLocation : (q : Location) → (old new : List ItemGroup) → Type 0
+AddsLocation q old new = (qs : List Location) (vs : List Value) → groups_in old ≡ grouped_from qs 0 vs → groups_in new ≡ grouped_from (qs ++ q ∷ []) 0 vs
 
 abbrev pub begins_with : Selector → Location → Bool
 begins_with t [] = false

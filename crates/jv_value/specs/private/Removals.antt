@@ -1,5 +1,5 @@
 -- What is left of a value while its parts are gone into one by one.
-use Rattle.std.specs.Prelude.{◌≡◌, ◌++◌, ◌∷◌, [], ℕ, List, map, String}
+use Rattle.std.specs.Prelude.{◌≡◌, ◌++◌, ◌∷◌, [], ℕ, List, map, Option, MatchOption, String}
 use Rattle.std.specs.BTreeMap.{get}
 use Rattle.std.specs.String.{string_cmp}
 use Rattle.std.specs.declared.alloc.Global.{Global}
@@ -29,6 +29,10 @@ GroupsLeave groups ms w = (qs : List Location) → ((s : String Global) → foll
 -- ns is left of the members ms without the locations in the member s, which are g
 abbrev pub LeavesMember : List ℕ → List Location → Members → Members → Type 0
 LeavesMember s g ms ns = (qs : List Location) → following (key s) qs ≡ g → members_left (apart (key s) qs) ns ≡ members_left qs ms
+
+-- left of the members ms without the locations in the member s, which are g, are ns, and if a part was taken out, what is left of it at s
+abbrev pub TakesMember : List ℕ → List Location → Option Val → (ms ns : Members) → Type 0
+TakesMember s g part ms ns = MatchOption part (LeavesMember s g ms ns) (λ v. LeavesMember s g ms (put s (without_locations g (view v)) ns))
 
 -- w is left of the container if v is left of its part
 abbrev pub Leaves : Open → Value → Value → Type 0

@@ -16,10 +16,10 @@ loop-preserved c =
           ∙ ap (λ ps. open_order ps Equal) w.in-Some.ensures.items ∙ open_order-last w.pop.new.self.items w.in-Some.above Equal)
       | in-Ok+in-Err-Equal-pair_of w ↦
           rw (w.open-is, w.pair-is)
-          (known ∙ ap (λ o. ordering_then o above) (w.in-Ok.ensures ∙ ap (λ o. ordering_then o (parts_order w.in-Ok.rest)) (sym w.in-Err-Equal-pair_of.ensures ∙ w.in-Err-Equal-pair_of.field-0-is)))
+          (known ∙ ap (λ o. ordering_then o above) (sym w.in-Ok.ensures ∙ ap (λ o. ordering_then o (parts_order w.in-Ok.rest)) (sym w.in-Err-Equal-pair_of.ensures ∙ w.in-Err-Equal-pair_of.field-0-is)))
       | in-Ok+in-Ok-pair_of+in-Ok-push w ↦
           rw (w.open-is, w.pair-is)
-          (known ∙ ap (λ o. ordering_then o above) (w.in-Ok.ensures ∙ ap (λ o. ordering_then o (parts_order w.in-Ok.rest)) (sym w.in-Ok-pair_of.ensures))
+          (known ∙ ap (λ o. ordering_then o above) (sym w.in-Ok.ensures ∙ ap (λ o. ordering_then o (parts_order w.in-Ok.rest)) (sym w.in-Ok-pair_of.ensures))
           ∙ then_again (parts_order w.in-Ok-pair_of.parts) (parts_order w.in-Ok.rest) above
           ∙ ap (ordering_then (parts_order w.in-Ok-pair_of.parts)) (sym (ap (λ ps. open_order ps Equal) w.in-Ok-push.ensures.items ∙ open_order-last c.loop.open.items w.in-Ok.rest Equal)))
     ]

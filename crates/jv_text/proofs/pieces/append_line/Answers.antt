@@ -1,10 +1,9 @@
-use Rattle.std.proofs.Common.{◌≡◌, ◌∙◌, List, [], ◌++◌, ap, sym, length}
-use Rattle.json.specs.Layout.{is_value, pretty, pretty_from, state_after}
-use Rattle.json.specs.Print.{ends_value, print, print_from}
-use Rattle.json.specs.Token.{Token}
+use Rattle.std.proofs.Common.{◌≡◌, ◌∙◌, [], ◌++◌, ap, sym, drop, length}
+use Rattle.json.specs.Layout.{is_value}
+use Rattle.json.specs.Print.{print, print_from}
 use Rattle.jv_text.specs.Places.{place_of, replayed}
 use Rattle.jv_text.specs.PrintedTokens.{open_tokens}
-use Rattle.jv_text.proofs.Resumed.{line_resumed}
+use Rattle.jv_text.proofs.Resumed.{after_front, line_resumed}
 use Rattle.jv_text.proofs.pieces.append_line.Goals as goal
 
 pub returns-clause-ok : goal.returns-clause-ok
@@ -23,4 +22,6 @@ returns-clause-ok c =
     ap (λ t. t ++ after) (c.as_slice.ensures.value ∙ c.finish-text.ensures.text)
     ∙ ap (λ b. print written ++ print_from b left) c.finish-text.ensures.place ∙ line_resumed place written left all resumed in
     let done = c.in_ok-append_after.ensures.ok in
-    (done.0, done.1, done.2 (print (replayed place)) after rest (sym len) same)
+    let text = c.as_slice.result.now in
+    let skipped = length c.as_slice-skipped.result.now in
+    (drop skipped text, done.1, after_front text (print (replayed place)) after rest skipped done.0 (sym len) same)

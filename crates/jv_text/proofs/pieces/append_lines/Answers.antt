@@ -1,10 +1,8 @@
-use Rattle.std.proofs.Common.{◌≡◌, ◌∙◌, List, [], ◌++◌, ap, sym, length}
-use Rattle.json.specs.Layout.{is_value, pretty, pretty_from, state_after}
-use Rattle.json.specs.Print.{ends_value, print, print_from}
-use Rattle.json.specs.Token.{Token}
+use Rattle.std.proofs.Common.{◌≡◌, ◌∙◌, [], ◌++◌, ap, sym, drop, length}
+use Rattle.json.specs.Layout.{pretty, pretty_from}
 use Rattle.jv_text.specs.Places.{place_of, replayed}
 use Rattle.jv_text.specs.PrintedTokens.{open_tokens}
-use Rattle.jv_text.proofs.Resumed.{lines_resumed}
+use Rattle.jv_text.proofs.Resumed.{after_front, lines_resumed}
 use Rattle.jv_text.proofs.pieces.append_lines.Goals as goal
 
 pub returns-clause-ok : goal.returns-clause-ok
@@ -23,4 +21,6 @@ returns-clause-ok c =
     ap (λ t. t ++ after) (c.as_slice.ensures.value ∙ c.finish-text.ensures.text)
     ∙ ap (λ s. pretty written ++ pretty_from s left) c.finish-text.ensures.place ∙ lines_resumed place written left all c.in_ok-replay.ensures.within resumed in
     let done = c.in_ok-append_after.ensures.ok in
-    (done.0, done.1, done.2 (pretty (replayed place)) after rest (sym len) same)
+    let text = c.as_slice.result.now in
+    let skipped = length c.as_slice-skipped.result.now in
+    (drop skipped text, done.1, after_front text (pretty (replayed place)) after rest skipped done.0 (sym len) same)

@@ -1,4 +1,4 @@
-use Rattle.std.proofs.Common.{◌≡◌, ◌-◌, ◌<◌, ◌∷◌, length, Some, None, string_bytes, refl, subst, ap, ◌∙◌, arith, rules, w64, SFits}
+use Rattle.std.proofs.Common.{◌≡◌, ◌-◌, ◌<◌, ◌∷◌, length, Some, None, refl, subst, ap, ◌∙◌, arith, rules, w64, SFits}
 use Rattle.std.proofs.lemmas.Int.{to_z-of_z}
 use Rattle.json.specs.Token.{Token}
 use Rattle.json.specs.Json.{after_end_array, read_key, value}
@@ -6,7 +6,7 @@ use Rattle.json.specs.Reads.{token_of}
 use Rattle.json.proofs.Grammar.{read_key-shorter, read_key_is, closed_array}
 use Rattle.jv_data.proofs.shared.Levels.{view-Null, view-Bool, view-Num, view-List, view-Table}
 use Rattle.jv_meaning.specs.Members.{put}
-use Rattle.jv_meaning.specs.Value.{array, object}
+use Rattle.jv_meaning.specs.Value.{array}
 use Rattle.std.specs.Str.{chars}
 use Rattle.jv_data.specs.declared.values.Val.TheVariants.{Num}
 use Rattle.jv_data.specs.Drafts.{drafted}
