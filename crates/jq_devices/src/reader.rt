@@ -1,5 +1,5 @@
 // Reading files one after the other.
-ghost use Rattle.std.specs.Prelude.{◌≡◌, ◌≢◌, ◌<◌, ◌++◌, ◌∷◌, [], List, ℕ, true, false, length, map, string_bytes, Ok, IsErr, IfOk, IfSome, OnErr};
+ghost use Rattle.std.specs.Prelude.{◌≡◌, ◌≢◌, ◌<◌, ◌++◌, ◌∷◌, ◌⊎◌, [], List, ℕ, true, false, length, map, string_bytes, Ok, IsErr, IfOk, IfSome, OnErr};
 ghost use Rattle.std.specs.Io.{ReadsAtMost};
 ghost use Rattle.std.specs.Io.KnownBytes.{Keeps, ReadConsumes};
 
@@ -109,9 +109,10 @@ impl<O: Opener> Read for FileReader<'_, O> {
         ensures bound { ReadsAtMost result buf.new }
         ensures bytes { ReadConsumes (bytes_left O.content O.File.remaining self.old) (bytes_left O.content O.File.remaining self.new) result buf.new }
 
-        // A read into a buffer with room returns no bytes only after the last file, and from then on always.
+        // A read into a buffer with room returns no bytes only after the last file, and from then on always. A read into one without
+        // room returns no bytes unless the reader has failed.
         ensures end { IfOk result (λ len. len ≡ 0 → 0 < length buf.old → IsDone self.new) }
-        ensures ended { IsDone self.old → (result ≡ Ok 0) × (self.new ≡ self.old) }
+        ensures ended { IsDone self.old ⊎ ((has_failed self.old ≡ false) × (length buf.old ≡ 0)) → (result ≡ Ok 0) × (self.new ≡ self.old) }
 
         // After an error there are only errors.
         ensures fails { OnErr result (has_failed self.new ≡ true) }
@@ -119,8 +120,6 @@ impl<O: Opener> Read for FileReader<'_, O> {
 
         // The first error is one of the open file, or of opening the next one.
         ensures blamed { OnErr result (has_failed self.old ≡ false → a_part_failed O.can_open O.File.has_failed self.new ≡ true) }
-
-        ensures no_room { length buf.old ≡ 0 → self.new ≡ self.old }
 
         // The files are opened in their order, each at most once.
         ensures opened { (names : List (List ℕ)) × (unopened self.old ≡ names ++ unopened self.new) }

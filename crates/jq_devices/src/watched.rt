@@ -119,9 +119,8 @@ impl<W: Write> Watched<W> {
         ensures kept { failures_of self.old ≤ failures_of self.new }
         ensures unfailed { IfOk result (λ len. 0 < len → failures_of self.new ≡ failures_of self.old) }
         ensures no_bytes { OnOk result (length buf.now ≡ 0 → failures_of self.new ≡ failures_of self.old) }
-        ensures none { IfOk result (λ len. len ≡ 0 → 0 < length buf.now → HasFailed (failures_of self.old) (failures_of self.new)) }
+        ensures none { IfOk result (λ len. len ≡ 0 → 0 < length buf.now → HasFailed (failures_of self.old) (failures_of self.new) × (W.has_failed (device_of self.new) ≡ true)) }
         ensures failed { OnErr result (HasFailed (failures_of self.old) (failures_of self.new)) }
-        ensures none_blamed { IfOk result (λ len. len ≡ 0 → 0 < length buf.now → W.has_failed (device_of self.new) ≡ true) }
         ensures blamed { OnErr result (W.has_failed (device_of self.new) ≡ true) }
     {
         let result = self.device.write(buf);

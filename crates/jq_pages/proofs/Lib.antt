@@ -4,6 +4,7 @@ pub mod Edits
 pub mod Applied
 pub mod Divided
 pub mod Filled
+pub mod Free
 pub mod Plain
 pub mod Grown
 pub mod Sets

@@ -220,3 +220,10 @@ resized_installed old new j i cut p put a rs x l e fits =
           let there : get_or new j d ≡ q = ap₂ (λ z k. get_or z k d) x.list (sym front) ∙ get_or-append-add (take j old) (q ∷ renewed (drop (j + 1) old) rs) 0 d in
           ap (λ (z : Page _). length z.inputs.items + cut) there ∙ ap (λ n. n + cut) count ∙ resized_count i (length put) (length p.inputs.items) cut fits ∙ ap (λ (z : Page _). length z.inputs.items + length put) (e ∙ same_default old j p d l);
     }
+
+-- the element that was put at a place
+pub placed_there : {A : Type 0} (xs ys : List A) (j : ℕ) (x d : A) → j < length xs → get_or (take j xs ++ (x ∷ ys)) j d ≡ x
+placed_there xs ys j x d l =
+    let le : j ≤ length xs = omega arith in
+    let front : length (take j xs) + 0 ≡ j = omega (arith, length-take-le j xs le) in
+    ap (λ k. get_or (take j xs ++ (x ∷ ys)) k d) (sym front) ∙ get_or-append-add (take j xs) (x ∷ ys) 0 d

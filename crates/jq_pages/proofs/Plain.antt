@@ -1,5 +1,5 @@
 -- Edits where all states are equal: a piece depends on its input alone.
-use Rattle.std.proofs.Common.{◌≡◌, ℕ, ◌+◌, ◌<◌, ◌≤◌, inl, List, [], ◌∷◌, ◌++◌, length, take, drop, get_or, refl, sym, ◌∙◌, ap, ap₂, subst, map, arith, append_assoc, length-append, length-take-le, take-append-drop, IsTrue, IsFalse, Bool, true, false, Result, Ok, IsErr, Option, Some, None}
+use Rattle.std.proofs.Common.{◌≡◌, ℕ, ◌+◌, ◌<◌, ◌≤◌, inl, List, [], ◌∷◌, ◌++◌, length, take, drop, get_or, refl, sym, ◌∙◌, ap, ap₂, subst, map, arith, append_assoc, length-append, length-take-le, take-append-drop, IsTrue, IsFalse, Bool, true, false, Result, Ok, Err, IsErr, Option, Some, None}
 use Rattle.std.proofs.lemmas.Grind.{flat_map-append}
 use Rattle.std.proofs.lemmas.List.{take-map, drop-map}
 use Rattle.std.specs.List.{replace_range}
@@ -11,7 +11,7 @@ use Rattle.jq_pages.specs.Folds.{Fold, Rises, state_after, pieces_after}
 use Rattle.jq_pages.specs.private.Reruns.{IsRunOf, Holds, kept_of, count_in, inputs_in, pieces_in}
 use Rattle.jq_pages.specs.private.Pages.{all_inputs, all_pieces, IsSized, IsHeld}
 use Rattle.jq_pages.specs.private.Placed.{put_at, Installed, Replaced}
-use Rattle.jq_pages.specs.private.Edits.{IsListChange, IsListEdit}
+use Rattle.jq_pages.specs.private.Edits.{IsListChange, IsListEdit, IsOneEdit}
 use Rattle.jq_pages.specs.declared.page.Page.{Page}
 use Rattle.jv_data.specs.declared.values.Val.{Val}
 use Rattle.jq_pages.specs.declared.pieces.Piece.{Piece}
@@ -127,6 +127,11 @@ some_more n = omega arith
 pub plain_refused : {S E : Type 0} (r : Fold S) (s : S) (old made : List Value) (was : List PieceView) (p put cut i before after n : ℕ) (result : Result Change E) → IsErr result → Rises before after n → n ≤ 1 → IsListEdit r s old old made was was p put cut i before after result
 plain_refused r s old made was p put cut i before after n result e rise few =
     err_edit r s old made was p put cut i before after result e (λ q m. few_rise before after n _ rise few (some_more _)) (few_rise before after n _ rise few (some_more _))
+
+-- the same, of which only the place is told
+pub one_refused : {E : Type 0} (p put cut before after : ℕ) (result : Result Change E) → IsErr result → Rises before after put → IsOneEdit p put cut before after result
+one_refused p put cut before after (Ok c) e rise = cc
+one_refused p put cut before after (Err x) e rise = record { change = tt; rises = rise }
 
 -- an edit of one place
 pub plain_edit : {T S E : Type 0} (seen : T → S) (r : Fold S) (s t : S) (old new : List (Page T)) (j i cut k : ℕ) (p : Page T) (put : List Val) (qs : List Piece) (c : Change) (before after : ℕ) → Replaced old new j i put qs cut → j < length old → p ≡ get_or old j p → i + cut ≤ length p.inputs.items → i + cut ≤ length p.pieces.items.items → count_in (take j old) + i ≡ k → k + cut ≤ length (all_pieces old) → map piece_view qs ≡ pieces_after r t (map view put) → Holds seen r s old → length put ≤ 1 → c.from ≡ k → c.put ≡ length put → c.cut ≡ cut → IsFalse c.closed → Rises before after (length put) → IsListEdit {E = E} r s (all_inputs old) (all_inputs new) (replace_range (all_inputs old) k (k + cut) (map view put)) (all_pieces old) (all_pieces new) k (length put) cut i before after (Ok c)

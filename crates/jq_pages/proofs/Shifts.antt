@@ -1,5 +1,5 @@
 -- A move: what its two halves say of the whole.
-use Rattle.std.proofs.Common.{◌≡◌, ℕ, zero, suc, ◌+◌, ◌-◌, ◌<◌, ◌≤◌, ◌⊎◌, inl, inr, List, [], ◌∷◌, ◌++◌, length, take, drop, get_or, refl, sym, ◌∙◌, ap, ap₂, subst, map, add-one, arith, get_or-append-add, take_all, IsTrue, Some, slice_get}
+use Rattle.std.proofs.Common.{◌≡◌, ℕ, zero, suc, ◌+◌, ◌-◌, ◌<◌, ◌≤◌, ◌⊎◌, inl, inr, List, [], ◌∷◌, ◌++◌, length, take, drop, get_or, refl, sym, ◌∙◌, ap, ap₂, subst, map, add-one, arith, get_or-append-add, take_all, IsTrue, IsErr, IfOk, Result, Ok, Err, Some, slice_get}
 use Rattle.std.proofs.lemmas.Grind.{flat_map-append}
 use Rattle.std.proofs.lemmas.List.{map-append}
 use Rattle.std.proofs.lemmas.Option.{slice_get_read}
@@ -11,7 +11,7 @@ use Rattle.jq_pages.specs.Folds.{Fold, Rises}
 use Rattle.jq_pages.specs.Pieces.{PieceView, piece_view}
 use Rattle.jq_pages.specs.private.Cuts.{AreSplices}
 use Rattle.jq_pages.specs.private.Moves.{IsShift, IsShiftStart, IsTarget, MayRise}
-use Rattle.jq_pages.specs.private.Pages.{all_inputs, all_pieces, parts, IsFilled, IsFilledBut, IsHeld, IsPlace}
+use Rattle.jq_pages.specs.private.Pages.{all_inputs, all_pieces, parts, IsFilled, IsFilledBut, IsFreePlace, IsHeld, IsPlace}
 use Rattle.jq_pages.specs.private.Placed.{Resized}
 use Rattle.jq_pages.specs.private.Reruns.{count_in, inputs_in}
 use Rattle.jq_pages.specs.declared.changes.Moved.{Moved}
@@ -223,6 +223,46 @@ target_spot ps qs j page at l f x y =
       | inl a ↦ ap (λ n. n + at) (count_before ps qs j page y.same y.others a) ∙ x.before a
       | inr b ↦ less_one _ _ _ _ (count_after ps qs j page 0 1 f y b) (x.after b)
     ]
+
+free_at : (at m n : ℕ) → at + 1 ≤ n → m + 1 ≡ n + 0 → at ≤ m
+free_at at m n l e = omega arith
+
+less_fits : (m n : ℕ) → n + 1 ≤ 64 → m + 1 ≡ n + 0 → m + 1 ≤ 64
+less_fits m n l e = omega arith
+
+-- the page of the insertion has the place free after the removal
+pub target_free : {T : Type 0} (ps qs : List (Page T)) (j page at l : ℕ) → j < length ps → IsTarget ps j page at l → Resized ps qs j 0 1 → IsFreePlace qs l page at
+target_free ps qs j page at l f x y = record {
+  page = subst (λ n. page < n) (sym y.same) x.has;
+  within = λ d.
+      elim (same_or page j) [
+        | inl e ↦ free_at at _ _ (x.here d e) (subst (λ z. length (get_or qs z d).inputs.items + 1 ≡ length (get_or ps z d).inputs.items + 0) (sym e) (y.here d))
+        | inr n ↦ subst (λ m. at ≤ m) (sym (y.others page d n)) (x.within d n)
+      ];
+  fits = λ d.
+      elim (same_or page j) [
+        | inl e ↦ less_fits _ _ (x.fits d) (subst (λ z. length (get_or qs z d).inputs.items + 1 ≡ length (get_or ps z d).inputs.items + 0) (sym e) (y.here d))
+        | inr n ↦ subst (λ m. m + 1 ≤ 64) (sym (y.others page d n)) (x.fits d)
+      ];
+  spot = target_spot ps qs j page at l f x y;
+}
+
+-- A refused move tells nothing.
+pub none_told : {A E : Type 0} (result : Result A E) (P : A → Type 0) → IsErr result → IfOk result P
+none_told (Ok a) P e = cc
+none_told (Err x) P e = tt
+
+-- how often a removal and an insertion start the filter of a plain fold
+pub rise_one : (a b : ℕ) → Rises a b 0 → Rises a b 1
+rise_one a b x = let p : a ≤ b = x.low in let q : b ≤ a + 0 = x.high in record { low = p; high = omega arith }
+
+pub rise_both : (a b d : ℕ) → Rises a b 0 → Rises b d 1 → Rises a d 1
+rise_both a b d x y =
+    let p : a ≤ b = x.low in
+    let q : b ≤ a + 0 = x.high in
+    let r : b ≤ d = y.low in
+    let s : d ≤ b + 1 = y.high in
+    record { low = omega arith; high = omega arith }
 
 pub count_less : {T : Type 0} (ps qs : List (Page T)) (j : ℕ) → j < length ps → Resized ps qs j 0 1 → count_in ps < 4294967296 → count_in qs < 4294967296
 count_less ps qs j f y l =

@@ -7,3 +7,5 @@ pub mod Bounds
 pub mod Cuts
 pub mod Groups
 pub mod Moves
+pub mod Keeps
+pub mod Made

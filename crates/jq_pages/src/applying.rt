@@ -1,15 +1,14 @@
 // An edit of the pages. All steps run before anything changes, and what they gave is then put in place without memory.
-ghost use Rattle.std.specs.Prelude.{◌≡◌, ◌+◌, ◌<◌, ◌≤◌, ◌^◌, [], ◌∷◌, length, map, take, None, IfOk, OnErr, OnOk, IsTrue, IsFalse};
 ghost use Rattle.std.specs.Option.{option_to_list};
-ghost use Rattle.jq_pages.specs.Folds.{Rises};
-ghost use Rattle.jq_pages.specs.Pieces.{PieceView, piece_view};
-ghost use Rattle.jq_pages.specs.private.Reruns.{Holds, count_in};
-ghost use Rattle.jq_pages.specs.private.Groups.{IsIndex};
-ghost use Rattle.jq_pages.specs.private.Pages.{all_inputs, all_pieces, parts, IsFilled, IsFilledBut, IsHeld, IsPlace, IsSized};
-ghost use Rattle.jq_pages.specs.private.Edits.{IsOneEdit, IsPagesEdit, changed, changed_in};
-ghost use Rattle.jq_pages.specs.private.Cuts.{AreSplices};
-ghost use Rattle.jq_pages.specs.private.Placed.{Resized};
-ghost use Rattle.jq_pages.specs.private.Moves.{HasPlace, restored, restored_tail};
+ghost use Rattle.std.specs.Prelude.{◌≡◌, ◌<◌, ◌≤◌, ◌^◌, [], ◌∷◌, length, IfOk, OnErr};
+ghost use Rattle.jq_pages.specs.Pieces.{piece_view};
+ghost use Rattle.jq_pages.specs.private.Cuts.{IsReport};
+ghost use Rattle.jq_pages.specs.private.Edits.{changed, changed_in, EditsPages, IsEdit, IsPlainEdit};
+ghost use Rattle.jq_pages.specs.private.Groups.{IsIndex, IsSummed};
+ghost use Rattle.jq_pages.specs.private.Keeps.{IsKept, IsStored, KeepsPages, KeepsRun};
+ghost use Rattle.jq_pages.specs.private.Moves.{IsApplied};
+ghost use Rattle.jq_pages.specs.private.Pages.{all_inputs, all_pieces, IsAt, IsFilled, IsFilledBut, IsHeld, IsPlainPaged};
+ghost use Rattle.jq_pages.specs.private.Reruns.{count_in};
 ghost use Rattle.jq_pages.specs.declared.pieces.Piece.{Piece};
 
 use crate::changes::{Change, Edited};
@@ -51,25 +50,14 @@ pub(crate) fn edit_pages<S: Steps>(
     put: Option<Val>,
     cut: usize,
 ) -> Result<(Edited, Taken<S::State>), NoMemory>
-    requires place { IsPlace pages.old.items j i (length (option_to_list put)) cut }
-    requires spot { count_in (take j pages.old.items) + i ≡ k }
-    requires few { count_in pages.old.items < 2 ^ 32 }
-    requires index { IsIndex groups.old.items pages.old.items }
+    requires at { IsAt pages.old.items k j i (length (option_to_list put)) cut }
+    requires summed { IsSummed groups.old.items pages.old.items }
     requires held { ∥ IsHeld S.seen (S.fold steps.old) (S.seen first.now) pages.old.items tail.old ∥₁ }
-    ensures edits { ∥ IsPagesEdit S.seen (S.fold steps.old) (S.seen first.now) pages.old.items pages.new.items (count_in (take j pages.old.items) + i) (option_to_list put) cut i (S.starts steps.old) (S.starts steps.new) (changed_in result) ∥₁ }
-    ensures held { ∥ IsHeld S.seen (S.fold steps.new) (S.seen first.now) pages.new.items tail.new ∥₁ }
-    ensures filled { IsFilledBut j pages.old.items → IsFilledBut j pages.new.items }
-    ensures unchanged { OnErr result (pages.new.items ≡ pages.old.items) }
-    ensures taken { cut ≡ 1 → put ≡ None → IfOk result (λ e. restored (map parts pages.new.items) j i e.1 ≡ map parts pages.old.items) }
-    ensures room { cut ≡ 1 → put ≡ None → IfOk result (λ e. HasPlace pages.new.items j e.1) }
-    ensures same_tail { OnErr result (tail.new ≡ tail.old) }
-    ensures old_tail { IfOk result (λ e. restored_tail tail.new e.1 ≡ tail.old) }
-    ensures length { length pages.new.items ≡ length pages.old.items }
-    ensures resized { OnOk result (Resized pages.old.items pages.new.items j (length (option_to_list put)) cut) }
-    ensures tail { IfOk result (λ e. IsFalse e.0.change.closed → tail.new ≡ tail.old) }
-    ensures spliced { IfOk result (λ e. AreSplices e.0 (piece_view head.now) (all_pieces pages.old.items) (all_pieces pages.new.items) (piece_view tail.old) (piece_view tail.new)) }
-    ensures same { S.fold steps.new ≡ S.fold steps.old }
-    ensures index { IsIndex groups.new.items pages.new.items }
+    ensures edits { EditsPages S.seen (S.fold steps.old) (S.seen first.now) pages.old.items pages.new.items k (option_to_list put) cut i (S.starts steps.old) (S.starts steps.new) (changed_in result) }
+    ensures kept { IsKept S.seen (S.fold steps.old) (S.fold steps.new) (S.seen first.now) groups.new.items pages.new.items tail.new }
+    ensures pages { KeepsPages pages.old.items pages.new.items j }
+    ensures applied { IfOk result (λ e. IsApplied e.0 e.1 (piece_view head.now) pages.old.items pages.new.items tail.old tail.new j i put cut) }
+    ensures unchanged { OnErr result ((pages.new.items ≡ pages.old.items) × (tail.new ≡ tail.old)) }
 {
     let page = &pages[j];
     let entry = kept_after::<S>(first, &pages[..j]);
@@ -110,28 +98,14 @@ fn edit_plain<S: Steps>(
     put: Option<Val>,
     cut: usize,
 ) -> Result<(Edited, Taken<S::State>), NoMemory>
-    requires place { IsPlace pages.old.items j i (length (option_to_list put)) cut }
-    requires spot { count_in (take j pages.old.items) + i ≡ k }
-    requires few { count_in pages.old.items < 2 ^ 32 }
-    requires index { IsIndex groups.old.items pages.old.items }
-    requires alike { (a b : S.Seen) → a ≡ b }
-    requires holds { ∥ Holds S.seen (S.fold steps.old) (S.seen state.now) pages.old.items ∥₁ }
-    requires sized { ∥ IsSized pages.old.items ∥₁ }
-    ensures edits { ∥ IsPagesEdit S.seen (S.fold steps.old) (S.seen state.now) pages.old.items pages.new.items k (option_to_list put) cut i (S.starts steps.old) (S.starts steps.new) (changed_in result) ∥₁ }
-    ensures one { IsOneEdit k (length (option_to_list put)) cut (S.starts steps.old) (S.starts steps.new) (changed_in result) }
-    ensures holds { ∥ Holds S.seen (S.fold steps.old) (S.seen state.now) pages.new.items ∥₁ }
-    ensures sized { ∥ IsSized pages.new.items ∥₁ }
-    ensures filled { IsFilledBut j pages.old.items → IsFilledBut j pages.new.items }
+    requires at { IsAt pages.old.items k j i (length (option_to_list put)) cut }
+    requires summed { IsSummed groups.old.items pages.old.items }
+    requires plain { IsPlainPaged S.seen (S.fold steps.old) (S.seen state.now) pages.old.items }
+    ensures edit { IsPlainEdit S.seen (S.fold steps.old) (S.seen state.now) pages.old.items pages.new.items k (option_to_list put) cut i (S.starts steps.old) (S.starts steps.new) (changed_in result) }
+    ensures kept { KeepsRun S.seen (S.fold steps.old) (S.fold steps.new) (S.seen state.now) groups.new.items pages.new.items }
+    ensures pages { KeepsPages pages.old.items pages.new.items j }
+    ensures applied { IfOk result (λ e. (p : Piece) → IsApplied e.0 e.1 (piece_view head.now) pages.old.items pages.new.items p p j i put cut) }
     ensures unchanged { OnErr result (pages.new.items ≡ pages.old.items) }
-    ensures taken { cut ≡ 1 → put ≡ None → IfOk result (λ e. restored (map parts pages.new.items) j i e.1 ≡ map parts pages.old.items) }
-    ensures room { cut ≡ 1 → put ≡ None → IfOk result (λ e. HasPlace pages.new.items j e.1) }
-    ensures old_tail { IfOk result (λ e. (p : Piece) → restored_tail p e.1 ≡ p) }
-    ensures length { length pages.new.items ≡ length pages.old.items }
-    ensures resized { OnOk result (Resized pages.old.items pages.new.items j (length (option_to_list put)) cut) }
-    ensures open { IfOk result (λ e. IsFalse e.0.change.closed) }
-    ensures spliced { IfOk result (λ e. (tail end : PieceView) → AreSplices e.0 (piece_view head.now) (all_pieces pages.old.items) (all_pieces pages.new.items) tail end) }
-    ensures same { S.fold steps.new ≡ S.fold steps.old }
-    ensures index { IsIndex groups.new.items pages.new.items }
 {
     let more = slice_of(&put).len();
     let piece = run_one(steps, state, &put)?;
@@ -166,26 +140,14 @@ pub(crate) fn edit_either<S: Steps>(
     put: Option<Val>,
     cut: usize,
 ) -> Result<(Edited, Taken<S::State>), NoMemory>
-    requires place { IsPlace pages.old.items j i (length (option_to_list put)) cut }
-    requires spot { count_in (take j pages.old.items) + i ≡ k }
-    requires few { count_in pages.old.items < 2 ^ 32 }
-    requires index { IsIndex groups.old.items pages.old.items }
+    requires at { IsAt pages.old.items k j i (length (option_to_list put)) cut }
+    requires summed { IsSummed groups.old.items pages.old.items }
     requires held { ∥ IsHeld S.seen (S.fold steps.old) (S.seen first.now) pages.old.items tail.old ∥₁ }
-    ensures edits { ∥ IsPagesEdit S.seen (S.fold steps.old) (S.seen first.now) pages.old.items pages.new.items k (option_to_list put) cut i (S.starts steps.old) (S.starts steps.new) (changed_in result) ∥₁ }
-    ensures one { IsTrue (S.fold steps.old).plain → IsOneEdit k (length (option_to_list put)) cut (S.starts steps.old) (S.starts steps.new) (changed_in result) }
-    ensures held { ∥ IsHeld S.seen (S.fold steps.new) (S.seen first.now) pages.new.items tail.new ∥₁ }
-    ensures tail { IfOk result (λ e. IsFalse e.0.change.closed → tail.new ≡ tail.old) }
-    ensures spliced { IfOk result (λ e. AreSplices e.0 (piece_view head.now) (all_pieces pages.old.items) (all_pieces pages.new.items) (piece_view tail.old) (piece_view tail.new)) }
-    ensures same { S.fold steps.new ≡ S.fold steps.old }
-    ensures index { IsIndex groups.new.items pages.new.items }
-    ensures filled { IsFilledBut j pages.old.items → IsFilledBut j pages.new.items }
-    ensures unchanged { OnErr result (pages.new.items ≡ pages.old.items) }
-    ensures taken { cut ≡ 1 → put ≡ None → IfOk result (λ e. restored (map parts pages.new.items) j i e.1 ≡ map parts pages.old.items) }
-    ensures room { cut ≡ 1 → put ≡ None → IfOk result (λ e. HasPlace pages.new.items j e.1) }
-    ensures same_tail { OnErr result (tail.new ≡ tail.old) }
-    ensures old_tail { IfOk result (λ e. restored_tail tail.new e.1 ≡ tail.old) }
-    ensures length { length pages.new.items ≡ length pages.old.items }
-    ensures resized { OnOk result (Resized pages.old.items pages.new.items j (length (option_to_list put)) cut) }
+    ensures edit { IsEdit S.seen (S.fold steps.old) (S.seen first.now) pages.old.items pages.new.items k (option_to_list put) cut i (S.starts steps.old) (S.starts steps.new) (changed_in result) }
+    ensures kept { IsKept S.seen (S.fold steps.old) (S.fold steps.new) (S.seen first.now) groups.new.items pages.new.items tail.new }
+    ensures pages { KeepsPages pages.old.items pages.new.items j }
+    ensures applied { IfOk result (λ e. IsApplied e.0 e.1 (piece_view head.now) pages.old.items pages.new.items tail.old tail.new j i put cut) }
+    ensures unchanged { OnErr result ((pages.new.items ≡ pages.old.items) × (tail.new ≡ tail.old)) }
 {
     if steps.plain() {
         return edit_plain(alloc, steps, head, first, groups, pages, k, j, i, put, cut);
@@ -234,20 +196,14 @@ fn edit_at<S: Steps>(
     put: Option<Val>,
     cut: usize,
 ) -> Result<Edited, NoMemory>
-    requires place { IsPlace pages.old.items j i (length (option_to_list put)) cut }
-    requires spot { count_in (take j pages.old.items) + i ≡ k }
-    requires few { count_in pages.old.items < 2 ^ 32 }
-    requires index { IsIndex groups.old.items pages.old.items }
+    requires at { IsAt pages.old.items k j i (length (option_to_list put)) cut }
+    requires summed { IsSummed groups.old.items pages.old.items }
     requires held { ∥ IsHeld S.seen (S.fold steps.old) (S.seen first.now) pages.old.items tail.old ∥₁ }
     requires filled { ∥ IsFilledBut j pages.old.items ∥₁ }
-    ensures edits { ∥ IsPagesEdit S.seen (S.fold steps.old) (S.seen first.now) pages.old.items pages.new.items k (option_to_list put) cut i (S.starts steps.old) (S.starts steps.new) (changed result) ∥₁ }
-    ensures one { IsTrue (S.fold steps.old).plain → IsOneEdit k (length (option_to_list put)) cut (S.starts steps.old) (S.starts steps.new) (changed result) }
-    ensures held { ∥ IsHeld S.seen (S.fold steps.new) (S.seen first.now) pages.new.items tail.new ∥₁ }
-    ensures tail { IfOk result (λ e. IsFalse e.change.closed → tail.new ≡ tail.old) }
-    ensures spliced { IfOk result (λ e. AreSplices e (piece_view head.now) (all_pieces pages.old.items) (all_pieces pages.new.items) (piece_view tail.old) (piece_view tail.new)) }
+    ensures edit { IsEdit S.seen (S.fold steps.old) (S.seen first.now) pages.old.items pages.new.items k (option_to_list put) cut i (S.starts steps.old) (S.starts steps.new) (changed result) }
+    ensures report { IfOk result (λ e. IsReport e (piece_view head.now) (all_pieces pages.old.items) (all_pieces pages.new.items) tail.old tail.new) }
+    ensures stored { IsStored S.seen (S.fold steps.new) (S.seen first.now) groups.new.items pages.new.items tail.new }
     ensures same { S.fold steps.new ≡ S.fold steps.old }
-    ensures index { IsIndex groups.new.items pages.new.items }
-    ensures filled { ∥ IsFilled pages.new.items ∥₁ }
 {
     let result = edit_either(
         alloc, steps, head, first, groups, pages, tail, k, j, i, put, cut,
@@ -270,17 +226,11 @@ pub(crate) fn change_at<S: Steps>(
 ) -> Result<Edited, NoMemory>
     requires place { k < count_in pages.old.items }
     requires few { count_in pages.old.items < 2 ^ 32 }
-    requires index { IsIndex groups.old.items pages.old.items }
-    requires held { ∥ IsHeld S.seen (S.fold steps.old) (S.seen first.now) pages.old.items tail.old ∥₁ }
-    requires filled { ∥ IsFilled pages.old.items ∥₁ }
-    ensures edits { ∥ IsPagesEdit S.seen (S.fold steps.old) (S.seen first.now) pages.old.items pages.new.items k (option_to_list put) 1 64 (S.starts steps.old) (S.starts steps.new) (changed result) ∥₁ }
-    ensures one { IsTrue (S.fold steps.old).plain → IsOneEdit k (length (option_to_list put)) 1 (S.starts steps.old) (S.starts steps.new) (changed result) }
-    ensures held { ∥ IsHeld S.seen (S.fold steps.new) (S.seen first.now) pages.new.items tail.new ∥₁ }
-    ensures tail { IfOk result (λ e. IsFalse e.change.closed → tail.new ≡ tail.old) }
-    ensures spliced { IfOk result (λ e. AreSplices e (piece_view head.now) (all_pieces pages.old.items) (all_pieces pages.new.items) (piece_view tail.old) (piece_view tail.new)) }
+    requires stored { IsStored S.seen (S.fold steps.old) (S.seen first.now) groups.old.items pages.old.items tail.old }
+    ensures edit { IsEdit S.seen (S.fold steps.old) (S.seen first.now) pages.old.items pages.new.items k (option_to_list put) 1 64 (S.starts steps.old) (S.starts steps.new) (changed result) }
+    ensures report { IfOk result (λ e. IsReport e (piece_view head.now) (all_pieces pages.old.items) (all_pieces pages.new.items) tail.old tail.new) }
+    ensures stored { IsStored S.seen (S.fold steps.new) (S.seen first.now) groups.new.items pages.new.items tail.new }
     ensures same { S.fold steps.new ≡ S.fold steps.old }
-    ensures index { IsIndex groups.new.items pages.new.items }
-    ensures filled { ∥ IsFilled pages.new.items ∥₁ }
 {
     let (j, i) = find(groups, pages, k);
     edit_at(
@@ -302,17 +252,11 @@ pub(crate) fn insert_at<S: Steps>(
 ) -> Result<Edited, NoMemory>
     requires place { k ≤ count_in pages.old.items }
     requires few { count_in pages.old.items < 2 ^ 32 }
-    requires index { IsIndex groups.old.items pages.old.items }
-    requires held { ∥ IsHeld S.seen (S.fold steps.old) (S.seen first.now) pages.old.items tail.old ∥₁ }
-    requires filled { ∥ IsFilled pages.old.items ∥₁ }
-    ensures edits { ∥ IsPagesEdit S.seen (S.fold steps.old) (S.seen first.now) pages.old.items pages.new.items k (value ∷ []) 0 64 (S.starts steps.old) (S.starts steps.new) (changed result) ∥₁ }
-    ensures one { IsTrue (S.fold steps.old).plain → IsOneEdit k (length (value ∷ [])) 0 (S.starts steps.old) (S.starts steps.new) (changed result) }
-    ensures held { ∥ IsHeld S.seen (S.fold steps.new) (S.seen first.now) pages.new.items tail.new ∥₁ }
-    ensures tail { IfOk result (λ e. IsFalse e.change.closed → tail.new ≡ tail.old) }
-    ensures spliced { IfOk result (λ e. AreSplices e (piece_view head.now) (all_pieces pages.old.items) (all_pieces pages.new.items) (piece_view tail.old) (piece_view tail.new)) }
+    requires stored { IsStored S.seen (S.fold steps.old) (S.seen first.now) groups.old.items pages.old.items tail.old }
+    ensures edit { IsEdit S.seen (S.fold steps.old) (S.seen first.now) pages.old.items pages.new.items k (value ∷ []) 0 64 (S.starts steps.old) (S.starts steps.new) (changed result) }
+    ensures report { IfOk result (λ e. IsReport e (piece_view head.now) (all_pieces pages.old.items) (all_pieces pages.new.items) tail.old tail.new) }
+    ensures stored { IsStored S.seen (S.fold steps.new) (S.seen first.now) groups.new.items pages.new.items tail.new }
     ensures same { S.fold steps.new ≡ S.fold steps.old }
-    ensures index { IsIndex groups.new.items pages.new.items }
-    ensures filled { ∥ IsFilled pages.new.items ∥₁ }
 {
     let (j, i) = make_room(alloc, steps, first, groups, pages, k)?;
     edit_at(

@@ -1,12 +1,10 @@
 // The pages of the first inputs.
-ghost use Rattle.std.specs.Prelude.{◌≡◌, ℕ, ◌+◌, ◌<◌, ◌≤◌, [], ◌∷◌, ◌++◌, length, map, IfOk, OnOk, slice_index_or};
+ghost use Rattle.std.specs.Prelude.{◌≡◌, ◌+◌, ◌<◌, [], ◌∷◌, ◌++◌, length, map, IfOk, OnOk, slice_index_or};
 ghost use Rattle.jv_data.specs.View.{view};
-ghost use Rattle.jq_pages.specs.Pieces.{piece_view};
 ghost use Rattle.jq_pages.specs.Changes.{IsStart};
 ghost use Rattle.jq_pages.specs.Folds.{Rises};
-ghost use Rattle.jq_pages.specs.private.Reruns.{Holds};
 ghost use Rattle.jq_pages.specs.private.Groups.{IsIndex};
-ghost use Rattle.jq_pages.specs.private.Pages.{all_inputs, IsBegun, IsFilled, IsHeld, IsSized};
+ghost use Rattle.jq_pages.specs.private.Pages.{all_inputs, IsBegun, IsFilled, IsHeld, IsPaged};
 ghost use Rattle.jq_pages.specs.private.Placed.{Grown};
 
 use crate::following::kept_after;
@@ -67,12 +65,10 @@ fn add_input<S: Steps>(
     pages: &mut Vec<Page<S::State>>,
     value: Val,
 ) -> Result<(), NoMemory>
-    requires holds { ∥ Holds S.seen (S.fold steps.old) (S.seen first.now) pages.old.items ∥₁ }
-    requires sized { ∥ IsSized pages.old.items ∥₁ }
+    requires paged { IsPaged S.seen (S.fold steps.old) (S.seen first.now) pages.old.items }
     requires filled { ∥ IsFilled pages.old.items ∥₁ }
     ensures inputs { OnOk result (all_inputs pages.new.items ≡ all_inputs pages.old.items ++ view value ∷ []) }
-    ensures holds { OnOk result (∥ Holds S.seen (S.fold steps.old) (S.seen first.now) pages.new.items ∥₁) }
-    ensures sized { OnOk result (∥ IsSized pages.new.items ∥₁) }
+    ensures paged { OnOk result (IsPaged S.seen (S.fold steps.old) (S.seen first.now) pages.new.items) }
     ensures filled { OnOk result (∥ IsFilled pages.new.items ∥₁) }
     ensures same { S.fold steps.new ≡ S.fold steps.old }
     ensures rises { Rises (S.starts steps.old) (S.starts steps.new) 1 }
@@ -93,8 +89,7 @@ pub(crate) fn fill_pages<S: Steps>(
     inputs: Vec<Val>,
 ) -> Result<Vec<Page<S::State>>, NoMemory>
     ensures inputs { IfOk result (λ p. all_inputs p.items ≡ map view inputs.items) }
-    ensures holds { IfOk result (λ p. ∥ Holds S.seen (S.fold steps.old) (S.seen first.now) p.items ∥₁) }
-    ensures sized { IfOk result (λ p. ∥ IsSized p.items ∥₁) }
+    ensures paged { IfOk result (λ p. IsPaged S.seen (S.fold steps.old) (S.seen first.now) p.items) }
     ensures filled { IfOk result (λ p. ∥ IsFilled p.items ∥₁) }
     ensures same { S.fold steps.new ≡ S.fold steps.old }
     ensures rises { Rises (S.starts steps.old) (S.starts steps.new) (length inputs.items) }

@@ -1,13 +1,13 @@
 // The splices of an edit, which are made before anything changes.
-ghost use Rattle.std.specs.Prelude.{◌≡◌, ◌+◌, ◌<◌, ◌≤◌, ◌^◌, ◌∷◌, ◌++◌, length, map, take, drop, slice_index_or, IfOk, OnOk};
 ghost use Rattle.std.specs.List.{flat_map};
+ghost use Rattle.std.specs.Prelude.{◌≡◌, ◌+◌, ◌<◌, ◌≤◌, ◌^◌, ◌∷◌, ◌++◌, length, map, take, slice_index_or, IfOk, OnOk};
 ghost use Rattle.jq_pages.specs.Pieces.{piece_view};
 ghost use Rattle.jq_pages.specs.Totals.{totals};
 ghost use Rattle.jq_pages.specs.private.Bounds.{IsBounded};
+ghost use Rattle.jq_pages.specs.private.Cuts.{closing_if, made_pieces, AddsBytes, AreMadeCuts, ArePlaceCuts, HasBytes};
 ghost use Rattle.jq_pages.specs.private.Groups.{IsIndex};
 ghost use Rattle.jq_pages.specs.private.Pages.{all_pieces};
-ghost use Rattle.jq_pages.specs.private.Reruns.{pieces_in, run_pieces};
-ghost use Rattle.jq_pages.specs.private.Cuts.{AddsBytes, AreCut, HasBytes, closing_if, made_pieces};
+ghost use Rattle.jq_pages.specs.private.Reruns.{run_pieces};
 
 use crate::editing::Made;
 use crate::grouping::{Group, totals_before};
@@ -125,7 +125,7 @@ pub(crate) fn splices_made<T>(
     requires index { IsIndex groups.now pages.now }
     requires few { length (all_pieces pages.now) < 2 ^ 32 }
     requires page { j + 1 + length made.now.runs.items ≤ length pages.now }
-    ensures { IfOk result (λ s. AreCut s.out s.err (piece_view head.now ∷ all_pieces (take j pages.now)) (all_pieces (take (1 + length made.now.runs.items) (drop j pages.now)) ++ closing_if made.now.tail (piece_view tail.now)) (made_pieces made.now)) }
+    ensures { IfOk result (λ s. AreMadeCuts s (piece_view head.now) pages.now tail.now j made.now) }
 {
     let bytes = bytes_made(alloc, made)?;
     let before = totals_with(head, groups, pages, j);
@@ -149,7 +149,7 @@ pub(crate) fn splices_one<T>(
     requires page { j < length pages.now }
     requires place { (d : Page T) → i + cut ≤ length (slice_index_or pages.now j d).pieces.items.items }
     requires small { i < 2 ^ 32 }
-    ensures { IfOk result (λ s. (d : Page T) → AreCut s.out s.err (piece_view head.now ∷ (all_pieces (take j pages.now) ++ take i (pieces_in (slice_index_or pages.now j d)))) (take cut (drop i (pieces_in (slice_index_or pages.now j d)))) (map piece_view put.now)) }
+    ensures { IfOk result (λ s. ArePlaceCuts s (piece_view head.now) pages.now j i cut (map piece_view put.now)) }
 {
     let bytes = bytes_of(alloc, put)?;
     let pieces = &pages[j].pieces.items;

@@ -1,15 +1,15 @@
 // A move: a removal and an insertion, of which both are made or neither. What the removal took out is kept until the insertion
 // is made; if that is refused, it is put back, which needs no memory.
-ghost use Rattle.std.specs.Prelude.{◌≡◌, ℕ, ◌+◌, ◌<◌, ◌≤◌, ◌^◌, ◌∷◌, ◌++◌, [], length, map, take, slice_index_or, IfOk, OnErr, OnOk, IsTrue, IsFalse};
+ghost use Rattle.std.specs.Prelude.{◌≡◌, ◌+◌, ◌<◌, ◌≤◌, ◌^◌, ◌∷◌, ◌++◌, [], length, map, take, slice_index_or, IfOk, OnErr, OnOk};
 ghost use Rattle.jv_data.specs.View.{view};
-ghost use Rattle.jq_pages.specs.Folds.{Rises};
 ghost use Rattle.jq_pages.specs.Pieces.{piece_view};
 ghost use Rattle.jq_pages.specs.Totals.{totals};
-ghost use Rattle.jq_pages.specs.private.Cuts.{AreSplices};
-ghost use Rattle.jq_pages.specs.private.Edits.{IsOneEdit, IsPagesEdit, changed};
-ghost use Rattle.jq_pages.specs.private.Groups.{IsIndex};
-ghost use Rattle.jq_pages.specs.private.Moves.{HasPlace, IsShift, IsShiftStart, IsTarget, restored, restored_tail};
-ghost use Rattle.jq_pages.specs.private.Pages.{all_inputs, all_pieces, parts, IsFilled, IsFilledBut, IsHeld, IsPlace};
+ghost use Rattle.jq_pages.specs.private.Cuts.{IsReport};
+ghost use Rattle.jq_pages.specs.private.Edits.{changed, IsEdit};
+ghost use Rattle.jq_pages.specs.private.Groups.{IsIndex, IsSummed};
+ghost use Rattle.jq_pages.specs.private.Keeps.{IsKept, IsStored};
+ghost use Rattle.jq_pages.specs.private.Moves.{restored, restored_tail, HasPlace, IsMoveStart, IsShift, IsShiftIn, IsTarget, IsUntouched};
+ghost use Rattle.jq_pages.specs.private.Pages.{all_inputs, all_pieces, parts, IsAt, IsFreePlace, IsHeld, IsPlace};
 ghost use Rattle.jq_pages.specs.private.Placed.{Resized};
 ghost use Rattle.jq_pages.specs.private.Reruns.{count_in};
 
@@ -94,24 +94,14 @@ fn insert_in<S: Steps>(
     spot: Spot,
     value: Val,
 ) -> Result<Edited, NoMemory>
-    requires page { spot.page < length pages.old.items }
-    requires within { (d : Page S.State) → spot.at ≤ length (slice_index_or pages.old.items spot.page d).inputs.items }
-    requires fits { (d : Page S.State) → length (slice_index_or pages.old.items spot.page d).inputs.items + 1 ≤ 64 }
-    requires spot { count_in (take spot.page pages.old.items) + spot.at ≡ l }
-    requires few { count_in pages.old.items < 2 ^ 32 }
-    requires index { IsIndex groups.old.items pages.old.items }
+    requires free { IsFreePlace pages.old.items l spot.page spot.at }
+    requires summed { IsSummed groups.old.items pages.old.items }
     requires held { ∥ IsHeld S.seen (S.fold steps.old) (S.seen first.now) pages.old.items tail.old ∥₁ }
-    ensures edits { ∥ IsPagesEdit S.seen (S.fold steps.old) (S.seen first.now) pages.old.items pages.new.items l (value ∷ []) 0 spot.at (S.starts steps.old) (S.starts steps.new) (changed result) ∥₁ }
-    ensures one { IsTrue (S.fold steps.old).plain → IsOneEdit l 1 0 (S.starts steps.old) (S.starts steps.new) (changed result) }
-    ensures held { ∥ IsHeld S.seen (S.fold steps.new) (S.seen first.now) pages.new.items tail.new ∥₁ }
-    ensures tail { IfOk result (λ e. IsFalse e.change.closed → tail.new ≡ tail.old) }
-    ensures spliced { IfOk result (λ e. AreSplices e (piece_view head.now) (all_pieces pages.old.items) (all_pieces pages.new.items) (piece_view tail.old) (piece_view tail.new)) }
-    ensures same { S.fold steps.new ≡ S.fold steps.old }
-    ensures index { IsIndex groups.new.items pages.new.items }
-    ensures unchanged { OnErr result (map parts pages.new.items ≡ map parts pages.old.items) }
-    ensures same_tail { OnErr result (tail.new ≡ tail.old) }
+    ensures edit { IsEdit S.seen (S.fold steps.old) (S.seen first.now) pages.old.items pages.new.items l (value ∷ []) 0 spot.at (S.starts steps.old) (S.starts steps.new) (changed result) }
+    ensures kept { IsKept S.seen (S.fold steps.old) (S.fold steps.new) (S.seen first.now) groups.new.items pages.new.items tail.new }
+    ensures report { IfOk result (λ e. IsReport e (piece_view head.now) (all_pieces pages.old.items) (all_pieces pages.new.items) tail.old tail.new) }
     ensures resized { OnOk result (Resized pages.old.items pages.new.items spot.page 1 0) }
-    ensures place { OnErr result ((j : ℕ) (t : Taken S.State) → HasPlace pages.old.items j t → HasPlace pages.new.items j t) }
+    ensures unchanged { OnErr result (IsUntouched pages.old.items pages.new.items tail.old tail.new) }
 {
     reserve_in(pages, spot.page)?;
     let (edited, _taken) = edit_either(
@@ -145,22 +135,14 @@ fn shift_in<S: Steps>(
     l: usize,
     to: Spot,
 ) -> Result<Moved, NoMemory>
-    requires from { IsPlace pages.old.items from.page from.at 0 1 }
+    requires at { IsAt pages.old.items k from.page from.at 0 1 }
     requires to { IsTarget pages.old.items from.page to.page to.at l }
-    requires spot { count_in (take from.page pages.old.items) + from.at ≡ k }
-    requires few { count_in pages.old.items < 2 ^ 32 }
-    requires index { IsIndex groups.old.items pages.old.items }
+    requires summed { IsSummed groups.old.items pages.old.items }
     requires held { ∥ IsHeld S.seen (S.fold steps.old) (S.seen first.now) pages.old.items tail.old ∥₁ }
-    ensures shifted { IfOk result (λ m. ∥ IsShift S.seen (S.fold steps.old) (S.seen first.now) (piece_view head.now) pages.old.items pages.new.items tail.old tail.new k l m ∥₁) }
-    ensures counted { IfOk result (λ m. (S.starts steps.old ≤ m.starts) × (m.starts ≤ S.starts steps.new)) }
+    ensures shifted { IfOk result (λ m. IsShiftIn S.seen (S.fold steps.old) (S.seen first.now) (piece_view head.now) pages.old.items pages.new.items tail.old tail.new k l from.page to.page m) }
     ensures back { OnErr result (map parts pages.new.items ≡ map parts pages.old.items) }
-    ensures length { length pages.new.items ≡ length pages.old.items }
-    ensures filled { IsFilledBut to.page pages.old.items → OnOk result (IsFilledBut from.page pages.new.items) }
-    ensures held { ∥ IsHeld S.seen (S.fold steps.new) (S.seen first.now) pages.new.items tail.new ∥₁ }
-    ensures index { IsIndex groups.new.items pages.new.items }
-    ensures same { S.fold steps.new ≡ S.fold steps.old }
-    ensures started { ∥ IsShiftStart (S.fold steps.old) (S.seen first.now) (all_inputs pages.old.items) k l from.at to.at (S.starts steps.old) (S.starts steps.new) ∥₁ }
-    ensures plain { IsTrue (S.fold steps.old).plain → Rises (S.starts steps.old) (S.starts steps.new) 1 }
+    ensures kept { IsKept S.seen (S.fold steps.old) (S.fold steps.new) (S.seen first.now) groups.new.items pages.new.items tail.new }
+    ensures starts { IsMoveStart (S.fold steps.old) (S.seen first.now) (all_inputs pages.old.items) k l from.at to.at (S.starts steps.old) (S.starts steps.new) result }
 {
     let value = copy_of(pages, from)?;
     let (removal, taken) = edit_either(
@@ -221,21 +203,14 @@ pub(crate) fn shift_at<S: Steps>(
     k: usize,
     l: usize,
 ) -> Result<Moved, NoMemory>
-    requires k { k < count_in pages.old.items }
-    requires l { l < count_in pages.old.items }
+    requires places { (k < count_in pages.old.items) × (l < count_in pages.old.items) }
     requires few { count_in pages.old.items < 2 ^ 32 }
-    requires index { IsIndex groups.old.items pages.old.items }
-    requires held { ∥ IsHeld S.seen (S.fold steps.old) (S.seen first.now) pages.old.items tail.old ∥₁ }
-    requires filled { ∥ IsFilled pages.old.items ∥₁ }
+    requires stored { IsStored S.seen (S.fold steps.old) (S.seen first.now) groups.old.items pages.old.items tail.old }
     ensures shifted { IfOk result (λ m. ∥ IsShift S.seen (S.fold steps.old) (S.seen first.now) (piece_view head.now) pages.old.items pages.new.items tail.old tail.new k l m ∥₁) }
-    ensures counted { IfOk result (λ m. (S.starts steps.old ≤ m.starts) × (m.starts ≤ S.starts steps.new)) }
     ensures unchanged { OnErr result (all_inputs pages.new.items ≡ all_inputs pages.old.items) }
-    ensures held { ∥ IsHeld S.seen (S.fold steps.new) (S.seen first.now) pages.new.items tail.new ∥₁ }
-    ensures index { IsIndex groups.new.items pages.new.items }
-    ensures filled { ∥ IsFilled pages.new.items ∥₁ }
+    ensures stored { IsStored S.seen (S.fold steps.new) (S.seen first.now) groups.new.items pages.new.items tail.new }
     ensures same { S.fold steps.new ≡ S.fold steps.old }
-    ensures started { ∥ IsShiftStart (S.fold steps.old) (S.seen first.now) (all_inputs pages.old.items) k l 64 64 (S.starts steps.old) (S.starts steps.new) ∥₁ }
-    ensures plain { IsTrue (S.fold steps.old).plain → Rises (S.starts steps.old) (S.starts steps.new) 1 }
+    ensures starts { IsMoveStart (S.fold steps.old) (S.seen first.now) (all_inputs pages.old.items) k l 64 64 (S.starts steps.old) (S.starts steps.new) result }
 {
     let gap = gap_of(k, l);
     let (page, at) = make_room(alloc, steps, first, groups, pages, gap)?;

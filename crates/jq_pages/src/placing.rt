@@ -1,12 +1,12 @@
 // What an edit changes after its runs. None of this needs memory: the other inputs of a page stay where they are.
-ghost use Rattle.std.specs.Prelude.{◌≡◌, ℕ, ◌+◌, ◌<◌, ◌≤◌, ◌^◌, [], ◌∷◌, ◌++◌, length, take, drop, map, slice_index_or, vec_capacity, MatchOption, None, Some, IsTrue, IsSome, ◌↔◌};
 ghost use Rattle.std.specs.Option.{option_to_list};
-ghost use Rattle.jq_pages.specs.private.Reruns.{renewed, run_in, count_in};
+ghost use Rattle.std.specs.Prelude.{◌≡◌, ◌+◌, ◌<◌, ◌≤◌, ◌^◌, ◌++◌, length, take, drop, map, slice_index_or, MatchOption, None, Some, IsTrue, IsSome, ◌↔◌};
 ghost use Rattle.jq_pages.specs.private.Groups.{IsIndex};
+ghost use Rattle.jq_pages.specs.private.Moves.{restored, IsSwapped, IsTakenOut};
 ghost use Rattle.jq_pages.specs.private.Pages.{parts, HasInputRoom, HasRoom};
-ghost use Rattle.jq_pages.specs.private.Moves.{other_tail, restored};
+ghost use Rattle.jq_pages.specs.private.Placed.{Dropped, Installed, Replaced};
+ghost use Rattle.jq_pages.specs.private.Reruns.{count_in, renewed, run_in};
 ghost use Rattle.jq_pages.specs.declared.applying.Taken.TheVariants as taken;
-ghost use Rattle.jq_pages.specs.private.Placed.{Installed, Dropped, Replaced};
 
 use crate::editing::Made;
 use crate::grouping::{Group, cut_groups};
@@ -101,11 +101,8 @@ pub(crate) fn exchange<T: Drop>(
     requires room { cut ≡ 0 → HasInputRoom pages.old.items j }
     ensures pages { Installed pages.old.items pages.new.items j i (option_to_list put) cut made.old.run made.old.runs.items }
     ensures put { cut ≡ 0 → map parts pages.new.items ≡ restored (map parts pages.old.items) j i (taken.Runs put made.old) }
-    ensures back { cut ≡ 1 → put ≡ None → restored (map parts pages.new.items) j i (taken.Runs result made.new) ≡ map parts pages.old.items }
-    ensures room { cut ≡ 1 → put ≡ None → HasInputRoom pages.new.items j }
-    ensures runs { length made.new.runs.items ≡ length made.old.runs.items }
-    ensures tail { MatchOption made.old.tail (tail.new ≡ tail.old) (λ p. tail.new ≡ p) }
-    ensures old_tail { other_tail tail.new made.new.tail ≡ tail.old }
+    ensures back { cut ≡ 1 → put ≡ None → IsTakenOut pages.old.items pages.new.items j i (taken.Runs result made.new) }
+    ensures swapped { IsSwapped made.old made.new tail.old tail.new }
 {
     let page = &mut pages[j];
     let taken = edit_list(&mut page.inputs, i, put, cut);
@@ -131,8 +128,7 @@ pub(crate) fn exchange_one<T: Drop>(
     requires room { cut ≡ 0 → HasRoom pages.old.items j }
     ensures pages { Replaced pages.old.items pages.new.items j i (option_to_list put) (option_to_list piece) cut }
     ensures put { cut ≡ 0 → map parts pages.new.items ≡ restored (map parts pages.old.items) j i (taken.One put piece) }
-    ensures back { cut ≡ 1 → put ≡ None → piece ≡ None → restored (map parts pages.new.items) j i (taken.One result.0 result.1) ≡ map parts pages.old.items }
-    ensures room { cut ≡ 1 → put ≡ None → piece ≡ None → HasRoom pages.new.items j }
+    ensures back { cut ≡ 1 → put ≡ None → piece ≡ None → IsTakenOut pages.old.items pages.new.items j i (taken.One result.0 result.1) }
 {
     let page = &mut pages[j];
     let value = edit_list(&mut page.inputs, i, put, cut);

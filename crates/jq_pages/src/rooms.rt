@@ -1,10 +1,10 @@
 // Room for one more input.
-ghost use Rattle.std.specs.Prelude.{◌≡◌, ℕ, ◌+◌, ◌-◌, ◌<◌, ◌≤◌, length, map, take, IfOk, OnOk, OnErr, IsTrue, slice_index_or};
-ghost use Rattle.jq_pages.specs.Folds.{Rises};
-ghost use Rattle.jq_pages.specs.private.Reruns.{Holds, count_in};
+ghost use Rattle.std.specs.Prelude.{◌≡◌, ℕ, ◌+◌, ◌<◌, ◌≤◌, length, map, IfOk, OnOk, OnErr, IsTrue, slice_index_or};
 ghost use Rattle.jq_pages.specs.private.Groups.{IsIndex};
-ghost use Rattle.jq_pages.specs.private.Pages.{all_inputs, all_pieces, parts, HasInputRoom, HasRoom, IsFilled, IsFilledBut, IsPlace, IsSized};
+ghost use Rattle.jq_pages.specs.private.Keeps.{IsRearranged, IsRoom, IsRoomStart};
+ghost use Rattle.jq_pages.specs.private.Pages.{parts, HasInputRoom, HasRoom, IsFilled, IsFilledBut, IsFreePlace, IsPaged};
 ghost use Rattle.jq_pages.specs.private.Placed.{Opened};
+ghost use Rattle.jq_pages.specs.private.Reruns.{count_in};
 
 use crate::dividing::{HALF, split_page};
 use crate::following::kept_after;
@@ -58,23 +58,12 @@ fn find_room<S: Steps>(
 ) -> Result<(usize, usize), NoMemory>
     requires place { k ≤ count_in pages.old.items }
     requires index { IsIndex groups.old.items pages.old.items }
-    requires holds { ∥ Holds S.seen (S.fold steps.old) (S.seen first.now) pages.old.items ∥₁ }
-    requires sized { ∥ IsSized pages.old.items ∥₁ }
-    ensures place { IfOk result (λ r. count_in (take r.0 pages.new.items) + r.1 ≡ k) }
-    ensures page { IfOk result (λ r. r.0 < length pages.new.items) }
-    ensures within { IfOk result (λ r. (d : Page S.State) → r.1 ≤ length (slice_index_or pages.new.items r.0 d).inputs.items) }
-    ensures fits { IfOk result (λ r. (d : Page S.State) → length (slice_index_or pages.new.items r.0 d).inputs.items + 1 ≤ 64) }
+    requires paged { IsPaged S.seen (S.fold steps.old) (S.seen first.now) pages.old.items }
+    ensures free { IfOk result (λ r. IsFreePlace pages.new.items k r.0 r.1) }
     ensures filled { IfOk result (λ r. IsFilled pages.old.items → IsFilledBut r.0 pages.new.items) }
-    ensures inputs { all_inputs pages.new.items ≡ all_inputs pages.old.items }
-    ensures pieces { all_pieces pages.new.items ≡ all_pieces pages.old.items }
+    ensures rearranged { IsRearranged S.seen (S.fold steps.old) (S.fold steps.new) (S.seen first.now) groups.new.items pages.old.items pages.new.items }
     ensures unchanged { OnErr result (pages.new.items ≡ pages.old.items) }
-    ensures holds { ∥ Holds S.seen (S.fold steps.old) (S.seen first.now) pages.new.items ∥₁ }
-    ensures sized { ∥ IsSized pages.new.items ∥₁ }
-    ensures index { IsIndex groups.new.items pages.new.items }
-    ensures same { S.fold steps.new ≡ S.fold steps.old }
-    ensures rises { IfOk result (λ r. Rises (S.starts steps.old) (S.starts steps.new) (64 - r.1)) }
-    ensures at_most { OnErr result (Rises (S.starts steps.old) (S.starts steps.new) 64) }
-    ensures silent { IsTrue (S.fold steps.old).plain → S.starts steps.new ≡ S.starts steps.old }
+    ensures starts { IsRoomStart (S.fold steps.old).plain (S.starts steps.old) (S.starts steps.new) result }
 {
     if k == 0 {
         if pages.is_empty() || pages[0].inputs.len() >= MOST_IN_PAGE {
@@ -127,22 +116,12 @@ pub(crate) fn make_room<S: Steps>(
 ) -> Result<(usize, usize), NoMemory>
     requires place { k ≤ count_in pages.old.items }
     requires index { IsIndex groups.old.items pages.old.items }
-    requires holds { ∥ Holds S.seen (S.fold steps.old) (S.seen first.now) pages.old.items ∥₁ }
-    requires sized { ∥ IsSized pages.old.items ∥₁ }
+    requires paged { IsPaged S.seen (S.fold steps.old) (S.seen first.now) pages.old.items }
     requires filled { ∥ IsFilled pages.old.items ∥₁ }
-    ensures place { IfOk result (λ r. count_in (take r.0 pages.new.items) + r.1 ≡ k) }
-    ensures spot { IfOk result (λ r. IsPlace pages.new.items r.0 r.1 1 0) }
-    ensures filled_but { IfOk result (λ r. ∥ IsFilledBut r.0 pages.new.items ∥₁) }
+    ensures room { IfOk result (λ r. IsRoom pages.new.items k r.0 r.1) }
     ensures filled { OnErr result (∥ IsFilled pages.new.items ∥₁) }
-    ensures inputs { all_inputs pages.new.items ≡ all_inputs pages.old.items }
-    ensures pieces { all_pieces pages.new.items ≡ all_pieces pages.old.items }
-    ensures holds { ∥ Holds S.seen (S.fold steps.old) (S.seen first.now) pages.new.items ∥₁ }
-    ensures sized { ∥ IsSized pages.new.items ∥₁ }
-    ensures index { IsIndex groups.new.items pages.new.items }
-    ensures same { S.fold steps.new ≡ S.fold steps.old }
-    ensures rises { IfOk result (λ r. Rises (S.starts steps.old) (S.starts steps.new) (64 - r.1)) }
-    ensures at_most { OnErr result (Rises (S.starts steps.old) (S.starts steps.new) 64) }
-    ensures silent { IsTrue (S.fold steps.old).plain → S.starts steps.new ≡ S.starts steps.old }
+    ensures rearranged { IsRearranged S.seen (S.fold steps.old) (S.fold steps.new) (S.seen first.now) groups.new.items pages.old.items pages.new.items }
+    ensures starts { IsRoomStart (S.fold steps.old).plain (S.starts steps.old) (S.starts steps.new) result }
 {
     let (j, i) = find_room(alloc, steps, first, groups, pages, k)?;
     match reserve_in(pages, j) {

@@ -58,3 +58,17 @@ changed_in (Err x) = Err x
 pub record IsOneEdit {E : Type 0} (p put cut before after : ℕ) (result : Result Change E) : Type 0 where
   pub change : IfOk result (λ c. (c.from ≡ p) × (c.put ≡ put) × (c.cut ≡ cut) × IsFalse c.closed)
   pub rises : Rises before after put
+
+-- that this is an edit of pages, without the proof
+abbrev pub EditsPages : {T S E : Type 0} → (T → S) → Fold S → S → (old new : List (Page T)) → (p : ℕ) → List Val → (cut i : ℕ) → (before after : ℕ) → Result Change E → Type 0
+EditsPages seen r s old new p put cut i before after result = ∥ IsPagesEdit seen r s old new p put cut i before after result ∥₁
+
+-- an edit of pages, at which only its place is run if the fold is plain
+pub record IsEdit {T S E : Type 0} (seen : T → S) (r : Fold S) (s : S) (old new : List (Page T)) (p : ℕ) (put : List Val) (cut i before after : ℕ) (result : Result Change E) : Type 0 where
+  pub edits : ∥ IsPagesEdit seen r s old new p put cut i before after result ∥₁
+  pub one : IsTrue r.plain → IsOneEdit p (length put) cut before after result
+
+-- an edit of pages, at which only its place is run
+pub record IsPlainEdit {T S E : Type 0} (seen : T → S) (r : Fold S) (s : S) (old new : List (Page T)) (p : ℕ) (put : List Val) (cut i before after : ℕ) (result : Result Change E) : Type 0 where
+  pub edits : ∥ IsPagesEdit seen r s old new p put cut i before after result ∥₁
+  pub one : IsOneEdit p (length put) cut before after result

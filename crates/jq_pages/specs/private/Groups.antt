@@ -31,3 +31,8 @@ pub record IsIndexBut {T : Type 0} (gs : List Group) (ps : List (Page T)) (a b :
 pub record IsFew {T : Type 0} (ps : List (Page T)) : Type 0 where
   pub inputs : count_in ps < 4294967296
   pub pieces : length (all_pieces ps) < 4294967296
+
+-- The groups are those of these pages, whose inputs can be counted.
+pub record IsSummed {T : Type 0} (gs : List Group) (ps : List (Page T)) : Type 0 where
+  pub index : IsIndex gs ps
+  pub few : count_in ps < 4294967296

@@ -1,5 +1,5 @@
 -- A removal that is taken back.
-use Rattle.std.specs.Prelude.{◌≡◌, ℕ, ◌+◌, ◌-◌, ◌<◌, ◌≤◌, List, [], ◌∷◌, ◌++◌, take, drop, get_or, length, Option, Some, None, Ok, IsTrue, IsFalse, slice_get}
+use Rattle.std.specs.Prelude.{◌≡◌, ℕ, ◌+◌, ◌-◌, ◌<◌, ◌≤◌, List, [], ◌∷◌, ◌++◌, take, drop, get_or, length, map, Option, Some, None, Result, Ok, IfOk, MatchOption, IsTrue, IsFalse, slice_get}
 use Rattle.std.specs.List.{replace_range}
 use Rattle.jv_meaning.specs.Value.{Value}
 use Rattle.jv_data.specs.View.{view}
@@ -7,15 +7,18 @@ use Rattle.jv_data.specs.declared.failures.NoMemory.{NoMemory}
 use Rattle.jq_pages.specs.Folds.{Fold, Rises}
 use Rattle.jq_pages.specs.Pieces.{PieceView, piece_view}
 use Rattle.jq_pages.specs.Totals.{totals}
-use Rattle.jq_pages.specs.private.Cuts.{AreSplices}
+use Rattle.jq_pages.specs.private.Cuts.{AreSplices, IsReport}
 use Rattle.jq_pages.specs.private.Edits.{IsOneEdit, IsPagesEdit, Meets}
 use Rattle.jq_pages.specs.private.Reruns.{count_in}
+use Rattle.jq_pages.specs.declared.changes.Edited.{Edited}
 use Rattle.jq_pages.specs.declared.changes.Moved.{Moved}
 use Rattle.std.specs.Option.{option_to_list}
 use Rattle.jv_data.specs.declared.values.Val.{Val}
-use Rattle.jq_pages.specs.private.Pages.{all_inputs, all_pieces, HasInputRoom, HasRoom, IsHeld}
+use Rattle.jq_pages.specs.private.Pages.{all_inputs, all_pieces, parts, HasInputRoom, HasRoom, IsFilledBut, IsHeld}
+use Rattle.jq_pages.specs.private.Placed.{Resized}
 use Rattle.jq_pages.specs.declared.applying.Taken.{Taken}
 use Rattle.jq_pages.specs.declared.applying.Taken.TheVariants as taken
+use Rattle.jq_pages.specs.declared.editing.Made.{Made}
 use Rattle.jq_pages.specs.declared.page.Page.{Page}
 use Rattle.jq_pages.specs.declared.page.Rerun.{Rerun}
 use Rattle.jq_pages.specs.declared.pieces.Piece.{Piece}
@@ -57,6 +60,30 @@ abbrev pub HasPlace : {T : Type 0} → List (Page T) → ℕ → Taken T → Typ
 HasPlace ps j (taken.Runs value made) = (j + 1 + length made.runs.items ≤ length ps) × HasInputRoom ps j
 HasPlace ps j (taken.One value piece) = (j < length ps) × HasRoom ps j
 
+-- This is what a removal at place `i` of page `j` took out, and it can be put back without memory.
+pub record IsTakenOut {T : Type 0} (old new : List (Page T)) (j i : ℕ) (t : Taken T) : Type 0 where
+  pub back : restored (map parts new) j i t ≡ map parts old
+  pub room : HasPlace new j t
+
+-- What was made for an edit and what was there changed places: there are as many runs, and the pieces of `close` are exchanged.
+pub record IsSwapped {T : Type 0} (old new : Made T) (tail end : Piece) : Type 0 where
+  pub runs : length new.runs.items ≡ length old.runs.items
+  pub new_tail : MatchOption old.tail (end ≡ tail) (λ p. end ≡ p)
+  pub old_tail : other_tail end new.tail ≡ tail
+
+-- What an accepted edit at place `i` of page `j` tells, the lengths of the pages after it, and what it took out.
+pub record IsApplied {T : Type 0} (e : Edited) (t : Taken T) (head : PieceView) (old new : List (Page T)) (tail end : Piece) (j i : ℕ) (put : Option Val) (cut : ℕ) : Type 0 where
+  pub report : IsReport e head (all_pieces old) (all_pieces new) tail end
+  pub resized : Resized old new j (length (option_to_list put)) cut
+  pub taken : cut ≡ 1 → put ≡ None → IsTakenOut old new j i t
+  pub old_tail : restored_tail end t ≡ tail
+
+-- A refused insertion changed nothing, and what was taken out before can still be put back without memory.
+pub record IsUntouched {T : Type 0} (old new : List (Page T)) (tail end : Piece) : Type 0 where
+  pub same : map parts new ≡ map parts old
+  pub kept_tail : end ≡ tail
+  pub place : (j : ℕ) (t : Taken T) → HasPlace old j t → HasPlace new j t
+
 -- An input that is removed at a place of page `j` can be inserted at place `at` of `page`, which is place `l` of the shorter list.
 pub record IsTarget {T : Type 0} (ps : List (Page T)) (j page at l : ℕ) : Type 0 where
   pub has : page < length ps
@@ -97,3 +124,15 @@ pub record IsShift {T S : Type 0} (seen : T → S) (r : Fold S) (s : S) (head : 
   pub cut : AreSplices m.removal head (all_pieces old) (all_pieces middle) (piece_view tail) (piece_view close)
   pub put : AreSplices m.insertion head (all_pieces middle) (all_pieces new) (piece_view close) (piece_view end)
   pub between : m.between ≡ totals (head ∷ (all_pieces middle ++ (piece_view close ∷ [])))
+
+-- The same move from page `j` to `page`. No page is added or removed, and only page `j` may become empty.
+pub record IsShiftIn {T S : Type 0} (seen : T → S) (r : Fold S) (s : S) (head : PieceView) (old new : List (Page T)) (tail end : Piece) (k l j page : ℕ) (m : Moved) : Type 0 where
+  pub shifted : ∥ IsShift seen r s head old new tail end k l m ∥₁
+  pub count : length new ≡ length old
+  pub filled : IsFilledBut page old → IsFilledBut j new
+
+-- how often a move starts the filter, and that the count that it tells lies between those before and after it
+pub record IsMoveStart {S E : Type 0} (r : Fold S) (s : S) (old : List Value) (k l i o before after : ℕ) (result : Result Moved E) : Type 0 where
+  pub started : ∥ IsShiftStart r s old k l i o before after ∥₁
+  pub plain : IsTrue r.plain → Rises before after 1
+  pub counted : IfOk result (λ m. (before ≤ m.starts) × (m.starts ≤ after))

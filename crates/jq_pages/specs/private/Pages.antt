@@ -5,7 +5,7 @@ use Rattle.jv_meaning.specs.Value.{Value}
 use Rattle.jv_data.specs.declared.values.Val.{Val}
 use Rattle.jq_pages.specs.Folds.{Fold}
 use Rattle.jq_pages.specs.Pieces.{PieceView, piece_view}
-use Rattle.jq_pages.specs.private.Reruns.{Holds, inputs_in, pieces_in, kept_of}
+use Rattle.jq_pages.specs.private.Reruns.{Holds, count_in, inputs_in, pieces_in, kept_of}
 use Rattle.jq_pages.specs.declared.page.Page.{Page}
 use Rattle.jq_pages.specs.declared.pieces.Piece.{Piece}
 
@@ -61,3 +61,25 @@ pub record IsPlace {T : Type 0} (pages : List (Page T)) (j i more cut : ℕ) : T
   pub place : (d : Page T) → i + cut ≤ length (slice_index_or pages j d).inputs.items
   pub fits : (d : Page T) → length (slice_index_or pages j d).inputs.items + more ≤ 64 + cut
   pub room : cut ≡ 0 → HasRoom pages j
+
+-- An edit at place `i` of page `j`, which is place `k` of the list, can take out `cut` inputs and put in `more`.
+pub record IsAt {T : Type 0} (pages : List (Page T)) (k j i more cut : ℕ) : Type 0 where
+  pub place : IsPlace pages j i more cut
+  pub spot : count_in (take j pages) + i ≡ k
+
+-- Place `k` of the list is place `i` of page `j`, which is not full.
+pub record IsFreePlace {T : Type 0} (pages : List (Page T)) (k j i : ℕ) : Type 0 where
+  pub page : j < length pages
+  pub within : (d : Page T) → i ≤ length (slice_index_or pages j d).inputs.items
+  pub fits : (d : Page T) → length (slice_index_or pages j d).inputs.items + 1 ≤ 64
+  pub spot : count_in (take j pages) + i ≡ k
+
+-- The pages hold the run of the fold over their inputs from a state, and none has too many inputs.
+pub record IsPaged {T S : Type 0} (seen : T → S) (r : Fold S) (s : S) (ps : List (Page T)) : Type 0 where
+  pub holds : ∥ Holds seen r s ps ∥₁
+  pub sized : ∥ IsSized ps ∥₁
+
+-- The same, of a fold whose states are all equal.
+pub record IsPlainPaged {T S : Type 0} (seen : T → S) (r : Fold S) (s : S) (ps : List (Page T)) : Type 0 where
+  pub alike : (a b : S) → a ≡ b
+  pub paged : IsPaged seen r s ps

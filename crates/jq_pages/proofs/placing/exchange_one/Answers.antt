@@ -1,8 +1,11 @@
-use Rattle.std.proofs.Common.{◌+◌, ◌++◌, ◌≤◌, length, take, drop, ap, refl, sym, subst, ◌∙◌}
+use Rattle.std.proofs.Common.{◌+◌, ◌++◌, ◌≤◌, ◌<◌, List, get_or, length, take, drop, ap, refl, sym, subst, ◌∙◌}
 use Rattle.std.specs.Option.{option_to_list}
+use Rattle.std.specs.Prelude.{vec_capacity}
 use Rattle.jq_pages.specs.declared.page.Page.{Page}
 use Rattle.jq_pages.proofs.Edits.{same_default, set_is}
-use Rattle.jq_pages.proofs.Moves.{one_back, one_put, put_back_is, put_there}
+use Rattle.jq_pages.proofs.Filled.{installed_length}
+use Rattle.jq_pages.proofs.Plain.{as_installed}
+use Rattle.jq_pages.proofs.Moves.{one_back, one_put, placed_there, put_back_is, put_there}
 use Rattle.jq_pages.proofs.placing.exchange_one.Goals as goal
 use Rattle.jq_pages.proofs.placing.exchange_one.Goals.{After-edit-old}
 
@@ -36,11 +39,15 @@ returns-clause-put g c z =
     (put_there q.inputs.items _ c.args.i c.args.cut c.args.put z c.edit_list-value.ensures.items) (put_there q.pieces.items.items _ c.args.i c.args.cut c.args.piece z c.edit-old.ensures.items) refl
 
 pub returns-clause-back : goal.returns-clause-back
+unfolding returns-clause-pages
 returns-clause-back g c z n m =
-    let b = (goal.at.returns-clause-back g c).After-edit-old in
-    let ps = c.args.pages.now.items in
-    let q = c.index_mut-page.result.now in
-    let new : Page _ = record { inputs = c.edit_list-value.new.list; pieces = c.edit-old.new.self; exit = q.exit } in
-    one_back ps _ c.args.j c.args.i q new c.edit_list-value.result c.edit-old.result c.requires.page c.index_mut-page.ensures.value (set_is ps c.args.j new c.requires.page)
-    (put_back_is q.inputs.items _ c.args.i c.args.cut c.args.put c.edit_list-value.result (place g b) n c.edit_list-value.ensures.items c.edit_list-value.ensures.taken)
-    (put_back_is q.pieces.items.items _ c.args.i c.args.cut c.args.piece c.edit-old.result (have g b) m c.edit-old.ensures.items c.edit-old.ensures.taken) refl
+    record {
+      back = let b = (goal.at.returns-clause-back g c).After-edit-old in
+          let ps = c.args.pages.now.items in
+          let q = c.index_mut-page.result.now in
+          let new : Page _ = record { inputs = c.edit_list-value.new.list; pieces = c.edit-old.new.self; exit = q.exit } in
+          one_back ps _ c.args.j c.args.i q new c.edit_list-value.result c.edit-old.result c.requires.page c.index_mut-page.ensures.value (set_is ps c.args.j new c.requires.page)
+          (put_back_is q.inputs.items _ c.args.i c.args.cut c.args.put c.edit_list-value.result (place g b) n c.edit_list-value.ensures.items c.edit_list-value.ensures.taken)
+          (put_back_is q.pieces.items.items _ c.args.i c.args.cut c.args.piece c.edit-old.result (have g b) m c.edit-old.ensures.items c.edit-old.ensures.taken) refl;
+      room = (subst (λ n. c.args.j < n) (sym (installed_length _ _ _ _ _ _ _ _ (as_installed _ _ _ _ _ _ _ (returns-clause-pages g c)) c.requires.page)) c.requires.page, record { inputs = λ d. subst (λ (z : Page _). length z.inputs.items + 1 ≤ vec_capacity z.inputs) (sym (ap (λ (z : List _). get_or z c.args.j d) (returns-clause-pages g c).list ∙ placed_there c.args.pages.now.items _ c.args.j _ d c.requires.page)) (c.edit_list-value.ensures.room z n); pieces = λ d. subst (λ (z : Page _). length z.pieces.items.items + 1 ≤ vec_capacity z.pieces.items) (sym (ap (λ (z : List _). get_or z c.args.j d) (returns-clause-pages g c).list ∙ placed_there c.args.pages.now.items _ c.args.j _ d c.requires.page)) (c.edit-old.ensures.room z m) });
+    }

@@ -29,32 +29,32 @@ accepts g c =
 pub returns-in_err-edited-clause-unchanged : goal.returns-in_err-edited-clause-unchanged
 returns-in_err-edited-clause-unchanged g c =
     let ran = c.in_err-edited.ensures in
-    on_err c.from_residual.result (kept_folded c.args.self.now.kept c.insert_at.new.steps c.insert_at.new.pages.items (insert c.args.k (view c.args.value)) (c.args.value ∷ []) _ ran.same ran.edits)
+    on_err c.from_residual.result (kept_folded c.args.self.now.kept c.insert_at.new.steps c.insert_at.new.pages.items (insert c.args.k (view c.args.value)) (c.args.value ∷ []) _ ran.same ran.edit.edits)
 
 pub returns-in_err-edited-clause-started : goal.returns-in_err-edited-clause-started
 returns-in_err-edited-clause-started g c =
     let ran = c.insert_at.ensures in
-    started_of c.args.self.now.kept c.insert_at.new.steps c.insert_at.new.pages.items (insert c.args.k (view c.args.value)) (c.args.value ∷ []) (changed c.insert_at.result) (accepts g ((goal.at.returns-in_err-edited-clause-started g c).After-insert_at)) ran.edits ran.one
+    started_of c.args.self.now.kept c.insert_at.new.steps c.insert_at.new.pages.items (insert c.args.k (view c.args.value)) (c.args.value ∷ []) (changed c.insert_at.result) (accepts g ((goal.at.returns-in_err-edited-clause-started g c).After-insert_at)) ran.edit.edits ran.edit.one
 
 pub returns-clause-edited : goal.returns-clause-edited
 returns-clause-edited g c =
     let ran = c.in_ok-edited.ensures in
-    edited_to c.args.self.now.kept c.insert_at.new.steps c.insert_at.new.pages.items (insert c.args.k (view c.args.value)) (c.args.value ∷ []) c.in_ok-edited.edited.change (accepts g ((goal.at.returns-clause-edited g c).After-insert_at)) ran.same ran.edits
+    edited_to c.args.self.now.kept c.insert_at.new.steps c.insert_at.new.pages.items (insert c.args.k (view c.args.value)) (c.args.value ∷ []) c.in_ok-edited.edited.change (accepts g ((goal.at.returns-clause-edited g c).After-insert_at)) ran.same ran.edit.edits
 
 pub returns-clause-change : goal.returns-clause-change
 returns-clause-change g c =
     let ran = c.in_ok-edited.ensures in
-    changed_by c.args.self.now.kept c.insert_at.new.steps c.insert_at.new.pages.items (insert c.args.k (view c.args.value)) (c.args.value ∷ []) c.in_ok-edited.edited.change c.insert_at.new.tail (accepts g ((goal.at.returns-clause-change g c).After-insert_at)) ran.same ran.held ran.edits ran.tail ran.one
+    changed_by c.args.self.now.kept c.insert_at.new.steps c.insert_at.new.pages.items (insert c.args.k (view c.args.value)) (c.args.value ∷ []) c.in_ok-edited.edited.change c.insert_at.new.tail (accepts g ((goal.at.returns-clause-change g c).After-insert_at)) ran.same ran.stored.held ran.edit.edits ran.report.kept_tail ran.edit.one
 
 pub returns-clause-spliced : goal.returns-clause-spliced
 returns-clause-spliced g c =
     let ran = c.in_ok-edited.ensures in
-    spliced_after c.args.self.now.kept c.insert_at.new.steps c.insert_at.new.pages.items (insert c.args.k (view c.args.value)) (c.args.value ∷ []) c.in_ok-edited.edited c.insert_at.new.tail ran.same ran.held ran.edits ran.tail ran.spliced
+    spliced_after c.args.self.now.kept c.insert_at.new.steps c.insert_at.new.pages.items (insert c.args.k (view c.args.value)) (c.args.value ∷ []) c.in_ok-edited.edited c.insert_at.new.tail ran.same ran.stored.held ran.edit.edits ran.report.kept_tail ran.report.spliced
 
 pub returns-clause-started : goal.returns-clause-started
 returns-clause-started g c =
     let ran = c.insert_at.ensures in
-    started_of c.args.self.now.kept c.insert_at.new.steps c.insert_at.new.pages.items (insert c.args.k (view c.args.value)) (c.args.value ∷ []) (changed c.insert_at.result) (accepts g ((goal.at.returns-clause-started g c).After-insert_at)) ran.edits ran.one
+    started_of c.args.self.now.kept c.insert_at.new.steps c.insert_at.new.pages.items (insert c.args.k (view c.args.value)) (c.args.value ∷ []) (changed c.insert_at.result) (accepts g ((goal.at.returns-clause-started g c).After-insert_at)) ran.edit.edits ran.edit.one
 
 pub returns-then-kept-eq-MOST_INPUTS-clause-refused : goal.returns-then-kept-eq-MOST_INPUTS-clause-refused
 returns-then-kept-eq-MOST_INPUTS-clause-refused g c =
@@ -73,10 +73,10 @@ invariant_of-kept g c =
     let ran = c.insert_at.ensures in
     record {
       begun = begun_again g.S.Steps.seen (g.S.Steps.fold old.steps) (g.S.Steps.fold c.insert_at.new.steps) old.head old.first ran.same old.begun;
-      held = ran.held;
-      filled = ran.filled;
-      counted = old.counted ∙ sym (counted_kept old c.insert_at.new.steps c.insert_at.new.pages.items (insert c.args.k (view c.args.value)) (c.args.value ∷ []) _ c.in_err-edited.ensures.edits);
-      indexed = ran.index;
+      held = ran.stored.held;
+      filled = ran.stored.filled;
+      counted = old.counted ∙ sym (counted_kept old c.insert_at.new.steps c.insert_at.new.pages.items (insert c.args.k (view c.args.value)) (c.args.value ∷ []) _ c.in_err-edited.ensures.edit.edits);
+      indexed = ran.stored.index;
       not_over_full = old.not_over_full;
     }
 
@@ -86,10 +86,10 @@ invariant_of-kept-2 g c =
     let ran = c.insert_at.ensures in
     record {
       begun = begun_again g.S.Steps.seen (g.S.Steps.fold old.steps) (g.S.Steps.fold c.insert_at.new.steps) old.head old.first ran.same old.begun;
-      held = ran.held;
-      filled = ran.filled;
-      counted = one_more _ _ _ old.counted (counted_after old c.insert_at.new.steps c.insert_at.new.pages.items (insert c.args.k (view c.args.value)) (c.args.value ∷ []) c.in_ok-edited.edited.change (accepts g ((goal.at.invariant_of-kept-2 g c).After-insert_at)) c.in_ok-edited.ensures.edits);
-      indexed = ran.index;
+      held = ran.stored.held;
+      filled = ran.stored.filled;
+      counted = one_more _ _ _ old.counted (counted_after old c.insert_at.new.steps c.insert_at.new.pages.items (insert c.args.k (view c.args.value)) (c.args.value ∷ []) c.in_ok-edited.edited.change (accepts g ((goal.at.invariant_of-kept-2 g c).After-insert_at)) c.in_ok-edited.ensures.edit.edits);
+      indexed = ran.stored.index;
       not_over_full = let l : length (folded_kept old).inputs < 1000000 = room _ _ _ c.if-kept-eq-MOST_INPUTS.false old.not_over_full old.counted (inputs_count old.pages.items) in grown _ _ _ old.counted (inputs_count old.pages.items) l;
     }
 
@@ -99,3 +99,6 @@ returns-in_err-edited-clause-refused g c =
     let edit = insert c.args.k (view c.args.value) in
     if_err c.from_residual.result refusal.NoMemory (λ r. IsRefusal r (after edit (folded_kept old))) c.from_residual.ensures.1
     (accepted_ok edit (c.args.value ∷ []) (g.S.Steps.fold old.steps) (folded_kept old).inputs (accepts g ((goal.at.returns-in_err-edited-clause-refused g c).After-insert_at)))
+
+pub insert_at-requires-clause-stored : goal.insert_at-requires-clause-stored
+insert_at-requires-clause-stored g c = let old = c.args.self.now.kept in record { held = old.held; filled = old.filled; index = old.indexed }
