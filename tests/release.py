@@ -273,7 +273,7 @@ def the_longest_chain_goes_first(program):
             status, told, _ = build_crates(top, lanes)
             for name, (jobs, nicer) in wants.items():
                 log = (top / "crates" / name / "out" / "build.log").read_text()
-                if log != f"built with --jobs {jobs} at niceness {os.getpriority(os.PRIO_PROCESS, 0) + nicer}\n":
+                if log != f"built with --jobs {jobs} at niceness {min(19, os.getpriority(os.PRIO_PROCESS, 0) + nicer)}\n":
                     return name, lanes, status, told, log
             (top / "crates" / "a" / "src" / "lib.rt").write_text(f"a after {lanes} {memory}")
     return None
