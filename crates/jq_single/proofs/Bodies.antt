@@ -3,7 +3,9 @@ use Rattle.std.proofs.Common.{◌≡◌, ◌∙◌, ℕ, ◌+◌, List, map, len
 use Rattle.jv_meaning.specs.Text.{text_of}
 use Rattle.jv_meaning.specs.Value.{Value}
 use Rattle.jq_ast.proofs.shared.Counts.{count_trees}
+use Rattle.jq_ast.specs.Leaves.{literal_of}
 use Rattle.jq_ast.specs.Named.{named, named_member, named_pattern, named_tree}
+use Rattle.jq_ast.specs.declared.leaves.Literal.{Literal}
 use Rattle.jq_ast.specs.declared.tree.Function.{Function}
 use Rattle.jq_ast.specs.declared.tree.Tree as ast
 use Rattle.jq_ast.specs.declared.tree.Tree.TheVariants as code
@@ -80,3 +82,7 @@ body_runs e depth less level t x d = ap (λ k. below k t e level x) (sym (add-on
 -- the tree of `.`
 pub named-Identity : named code.Identity ≡ tree.identity
 named-Identity = ap named (sym code.rolls-Identity) ∙ fold-roll-Tree tree.Part tree.Pattern tree.Tree named_member named_pattern named_tree Tree-F.Identity
+
+-- the tree of a constant
+pub named-Literal : (l : Literal) → named (code.Literal l) ≡ tree.literal (literal_of l)
+named-Literal l = ap named (sym (code.rolls-Literal l)) ∙ fold-roll-Tree tree.Part tree.Pattern tree.Tree named_member named_pattern named_tree (Tree-F.Literal l)

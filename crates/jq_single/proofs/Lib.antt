@@ -11,3 +11,4 @@ pub mod TurnRuns
 pub mod Outcomes
 pub mod Updated
 pub mod Passed
+pub mod Compared

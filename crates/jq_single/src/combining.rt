@@ -40,6 +40,9 @@ impl<'s> Context<'s> {
     ) -> Result<Val, Stop>
         ensures { RunsTo self.now (form.binary (operator_of operator) (named left.now) (named right.now)) (view value.now) result }
     {
+        if let Some(told) = self.compared(operator, left, right, value) {
+            return Ok(Val::Bool(told));
+        }
         let second = self.get_part(right, value)?;
         let first = self.get_part(left, value)?;
         operate(self.alloc, operator, first, &second)

@@ -7,6 +7,7 @@ mod calling;
 mod changing;
 mod choosing;
 mod combining;
+mod comparing;
 mod contexts;
 mod finding;
 mod first_outputs;

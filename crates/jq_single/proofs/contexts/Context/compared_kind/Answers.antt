@@ -1,0 +1,12 @@
+use Rattle.jv_data.specs.View.{view}
+use Rattle.jq_ast.specs.Leaves.{literal_of, operator_of}
+use Rattle.jq_ast.specs.Named.{name_of, named}
+use Rattle.jq_single.proofs.Compared.{kind_told}
+use Rattle.jq_single.proofs.contexts.Context.compared_kind.Goals as goal
+
+pub returns-then-is_type : goal.returns-then-is_type
+returns-then-is_type c =
+    let n = name_of c.in-Some.name.now in
+    kind_told c.args.self.now (operator_of c.args.operator) (named c.args.left.now) n (literal_of c.args.constant.now) (view c.args.value.now) c.kind_told.result
+    c.in-Some.ensures (c.is_type.ensures.name c.if-is_type.true) (c.is_type.ensures.unbound c.if-is_type.true)
+    (rw c.constant_of.ensures at c.kind_told.ensures)
