@@ -1,5 +1,5 @@
 -- The same as in the code, where a box is opened before its tree is resolved.
-use Rattle.std.proofs.Common.{◌≡◌, ◌-◌, ◌∷◌, length, drop, String, Global, Box, Bool, sym, subst}
+use Rattle.std.proofs.Common.{◌≡◌, ◌-◌, ◌∷◌, length, drop, OnOk, Result, Ok, Err, String, Global, Box, Bool, sym, subst}
 use Rattle.jv_meaning.specs.Text.{text_of}
 use Rattle.jq_tree.specs.Names.{Scope, to_label}
 use Rattle.jq_ast.specs.declared.leaves.Key.{Key}
@@ -39,6 +39,11 @@ arm_Array s t x y f g r e d = in_Array s t f g (at s t x y f g r e d)
 -- three parts in one scope
 abbrev pub AreResolved : (s t : Scope) (x x' y y' z z' : Tree) → Type 0
 AreResolved s t x x' y y' z z' = IsResolved s t x x' × IsResolved s t y y' × IsResolved s t z z'
+
+-- what holds of a result's three parts holds of them together
+pub all_three : {A E : Type 0} (r : Result A E) {P Q S : Type 0} → OnOk r P → OnOk r Q → OnOk r S → OnOk r (P × Q × S)
+all_three (Ok a) p q s = (p, q, s)
+all_three (Err e) p q s = tt
 
 pub of_entry : (s t : Scope) (old new z : Entry Tree) → old ≡ z → IsEntryResolved s t z new → IsEntryResolved s t old new
 of_entry s t old new z e r = subst (λ o. IsEntryResolved s t o new) (sym e) r
