@@ -2,7 +2,7 @@ use Rattle.std.proofs.Common.{rules, refl, ◌∙◌, ◌≡◌, ◌<◌, length
 use Rattle.jq_ast.specs.declared.tree.Tree as X
 use Rattle.jq_ast.specs.declared.tree.Pattern as Y
 use Rattle.jv_meaning.proofs.shared.Results.{on_ok_map}
-use Rattle.jq_resolver.proofs.Arms.{AreResolved, all_three, of_part, of_entry, entry_value, entry_both, entry_own, arm_Field, arm_Iterate, arm_Negation, arm_Array, arm_Label, arm_BindAs, arm_Reduce, arm_Foreach, arm_Define, arm_Keyed}
+use Rattle.jq_resolver.proofs.Arms.{on_ok_three, of_part, of_entry, entry_value, entry_both, entry_own, arm_Field, arm_Iterate, arm_Negation, arm_Array, arm_Label, arm_BindAs, arm_Reduce, arm_Foreach, arm_Define, arm_Keyed}
 use Rattle.jq_resolver.proofs.Parts.{two_resolved, three_resolved, in_Index, in_Pipe, in_Comma, in_Binary, in_And, in_Or, in_Alternative, in_TryCatch, in_Slice, in_Choice}
 use Rattle.jq_resolver.proofs.Forms.{in_Text, in_Object, in_Call, in_PreludeCall, in_Items, in_Members, definition_resolved}
 use Rattle.jq_resolver.proofs.Lists.{chain_step, unvisited_step}
@@ -78,15 +78,19 @@ pub resolve_tree-returns-in-Slice : goal.resolve_tree-returns-in-Slice
 unfolding X.out-Tree denote.Hole.Carrier.out
 resolve_tree-returns-in-Slice t c =
     let e = c.resolve_three.ensures in
-    let h = rw c.in-Slice.is at (all_three _ e.first e.second e.third) in
-    rw c.in-Slice.is (on_ok_map _ {P = AreResolved _ _ _ _ _ _ _ _} h (λ r. in_Slice _ _ c.in-Slice.target _ c.in-Slice.from _ c.in-Slice.to _ _ r.0 r.1 r.2))
+    let first = rw c.in-Slice.is at e.first in
+    let second = rw c.in-Slice.is at e.second in
+    let third = rw c.in-Slice.is at e.third in
+    rw c.in-Slice.is (on_ok_three _ {P = IsResolved _ _ _ _} {Q = IsResolved _ _ _ _} {S = IsResolved _ _ _ _} first second third (λ p q r. in_Slice _ _ c.in-Slice.target _ c.in-Slice.from _ c.in-Slice.to _ _ p q r))
 
 pub resolve_tree-returns-in-Choice : goal.resolve_tree-returns-in-Choice
 unfolding X.out-Tree denote.Hole.Carrier.out
 resolve_tree-returns-in-Choice t c =
     let e = c.resolve_three-in-Choice.ensures in
-    let h = rw c.in-Choice.is at (all_three _ e.first e.second e.third) in
-    rw c.in-Choice.is (on_ok_map _ {P = AreResolved _ _ _ _ _ _ _ _} h (λ r. in_Choice _ _ c.in-Choice.test _ c.in-Choice.holds _ c.in-Choice.fails _ r.0 r.1 r.2))
+    let first = rw c.in-Choice.is at e.first in
+    let second = rw c.in-Choice.is at e.second in
+    let third = rw c.in-Choice.is at e.third in
+    rw c.in-Choice.is (on_ok_three _ {P = IsResolved _ _ _ _} {Q = IsResolved _ _ _ _} {S = IsResolved _ _ _ _} first second third (λ p q r. in_Choice _ _ c.in-Choice.test _ c.in-Choice.holds _ c.in-Choice.fails _ p q r))
 
 pub resolve_tree-returns-in_ok-resolve_pieces-in-Text : goal.resolve_tree-returns-in_ok-resolve_pieces-in-Text
 unfolding X.out-Tree denote.Hole.Carrier.out
