@@ -3,19 +3,18 @@
 ghost use Rattle.std.specs.Prelude.{◌≡◌, ℕ, ◌<◌, List, [], ◌∷◌};
 ghost use Rattle.jv_meaning.specs.Value.{Value};
 ghost use Rattle.jq_tree.specs.Tree.{Name, Tree};
-ghost use Rattle.jq_meaning.specs.Runs.{Item, Ending, Run, plain, before, ended};
+ghost use Rattle.jq_meaning.specs.Runs.{Item, Ending, Run, before, ended};
 ghost use Rattle.jq_meaning.specs.Meaning.{meaning, run_of};
-ghost use Rattle.jq_machine.specs.State.{Scope, Frame, evaluate, ForkPoint, State, state, moves, outputs, finishes};
+ghost use Rattle.jq_machine.specs.State.{Scope, Frame, ForkPoint, State, moves, outputs, finishes};
 ghost use Rattle.jq_machine.specs.Heights.{Fit};
-ghost use Rattle.jq_machine.specs.Operations.{deliver};
 ghost use Rattle.jq_machine.specs.Machine.{step, Produces, Reaches};
-ghost use Rattle.jq_machine.specs.laws.Starts.{start, outer_scope};
+ghost use Rattle.jq_machine.specs.laws.Starts.{start, starting, to_run, run_at_once};
 
 /// The machine that runs a filter gives the filter's outputs in order and then its ending, after finitely many transitions.
 pub fn the_machine_makes_the_run_of_a_filter()
     ensures in_a_scope { (t : Tree) (p : Scope) (x : Item) → Produces (start t p x) (meaning p.depth t p.env p.level x) }
     ensures of_a_program { (depth : ℕ) (variables : List (Name × Value)) (inputs : Run Value) (t : Tree) (v : Value) →
-        Produces (start t (outer_scope depth variables inputs) (plain v)) (run_of depth variables inputs t v) }
+        Produces (starting depth variables inputs t v) (run_of depth variables inputs t v) }
 {}
 
 /// A state produces only one run.
@@ -51,6 +50,6 @@ pub fn a_number_falls()
 
 /// A filter whose run is known may be run at once: its first item is given, and the others are kept.
 pub fn a_filter_may_run_at_once()
-    ensures { (t : Tree) (p : Scope) (x : Item) (k : List Frame) (fs : List ForkPoint) (r : Run Item) → Fit (state (evaluate t p x) k fs) →
-        Produces (state (evaluate t p x) k fs) r → Produces (deliver (meaning p.depth t p.env p.level x) k fs) r }
+    ensures { (t : Tree) (p : Scope) (x : Item) (k : List Frame) (fs : List ForkPoint) (r : Run Item) →
+        Fit (to_run t p x k fs) → Produces (to_run t p x k fs) r → Produces (run_at_once t p x k fs) r }
 {}

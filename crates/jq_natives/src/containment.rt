@@ -1,16 +1,15 @@
 // Whether a value contains another. The containers that are being searched are in a list, so that depth takes no stack.
 ghost use Rattle.std.specs.Prelude.{◌≡◌, ◌&&◌, ◌||◌, IfOk, MatchResult, String, false, nat_eq, option_map};
 ghost use Rattle.std.specs.declared.alloc.Global.{Global};
-ghost use Rattle.std.specs.List.{list_any};
 ghost use Rattle.std.specs.Option.{option_map_or};
 ghost use Rattle.std.specs.Str.{chars};
 ghost use Rattle.jv_data.specs.Fails.{AnswersAs};
 ghost use Rattle.jv_data.specs.Held.{members_in};
-ghost use Rattle.jv_meaning.specs.Value.{rank, values_of};
+ghost use Rattle.jv_meaning.specs.Value.{rank};
 ghost use Rattle.jv_data.specs.View.{items_view, members_view, view};
 ghost use Rattle.jq_natives.specs.Answers.{is_same};
 ghost use Rattle.jq_natives.specs.Containment.{contained_in, contains_of, is_within, items_contained, members_contained};
-ghost use Rattle.jq_natives.specs.private.Searches.{after, found_by, leads_to};
+ghost use Rattle.jq_natives.specs.private.Searches.{after, found_by, in_one_of, leads_to};
 
 use jv_data::{Fail, Iter, Object, Val, kind, order, raise_kinds};
 use std::alloc::{AllocError, Global};
@@ -146,7 +145,7 @@ fn next_step<'a>(search: Search<'a>) -> Step<'a>
 }
 
 fn next_try<'a>(part: &'a Val, untried: &'a [Val], parts: &'a [Val], wholes: &'a [Val]) -> Step<'a>
-    ensures { leads_to result ≡ (list_any (contained_in (view part.now)) (values_of (items_view untried.now)) && items_contained (items_view parts.now) (items_view wholes.now)) }
+    ensures { leads_to result ≡ (in_one_of part.now untried.now && items_contained (items_view parts.now) (items_view wholes.now)) }
 {
     match first_container(part, untried) {
         Ok((inner, untried)) => Step::Deeper(inner, Search::Item(part, untried, parts, wholes)),
@@ -158,8 +157,8 @@ fn next_try<'a>(part: &'a Val, untried: &'a [Val], parts: &'a [Val], wholes: &'a
 // The search of the first item that is a container of the part's kind, and the items after it; or the answer.
 fn first_container<'a>(part: &'a Val, wholes: &'a [Val]) -> Result<(Search<'a>, &'a [Val]), bool>
     ensures { MatchResult result
-        (λ r. list_any (contained_in (view part.now)) (values_of (items_view wholes.now)) ≡ (found_by r.0 || list_any (contained_in (view part.now)) (values_of (items_view r.1.now))))
-        (λ answer. answer ≡ list_any (contained_in (view part.now)) (values_of (items_view wholes.now))) }
+        (λ r. in_one_of part.now wholes.now ≡ (found_by r.0 || in_one_of part.now r.1.now))
+        (λ answer. answer ≡ in_one_of part.now wholes.now) }
 {
     let mut rest = wholes;
     while let Some((whole, untried)) = rest.split_first() {

@@ -1,9 +1,10 @@
 // Flattened arrays.
-ghost use Rattle.std.specs.Prelude.{◌≡◌, ◌<◌, ◌∷◌, IfOk, MatchOption, map};
+ghost use Rattle.std.specs.Prelude.{◌≡◌, ◌<◌, IfOk, MatchOption, map};
 ghost use Rattle.jv_data.specs.Fails.{AnswersAs};
-ghost use Rattle.jv_meaning.specs.Value.{Items, array, item};
+ghost use Rattle.jv_meaning.specs.Value.{array};
 ghost use Rattle.jv_data.specs.View.{items_view, view};
 ghost use Rattle.jq_natives.specs.Arrays.{flatten_of, flattened, opened};
+ghost use Rattle.jq_natives.specs.private.Flattened.{StaysWhole};
 
 use jv_data::{Array, Fail, Val, raise};
 use jv_value::items;
@@ -69,7 +70,7 @@ fn opened(alloc: Global, items: &[Val], levels: u64) -> Result<Vec<Val>, AllocEr
 // The items of an array that is to be flattened.
 fn opened_items(value: &Val, levels: u64) -> Option<&[Val]>
     ensures { MatchOption result
-        ((rest : Items) → opened levels (item (view value.now) rest) ≡ view value.now ∷ opened levels rest)
+        (StaysWhole levels (view value.now))
         (λ items. (0 < levels) × (view value.now ≡ array (items_view items.now))) }
 {
     if levels == 0 {

@@ -1,12 +1,11 @@
 // Sorting and choosing by keys.
-ghost use Rattle.std.specs.Prelude.{◌≡◌, IfOk, IfSome, MatchResult, Ok, List, map, zip, true};
+ghost use Rattle.std.specs.Prelude.{◌≡◌, IfOk, IfSome, MatchResult, map, zip, true};
 ghost use Rattle.std.specs.Char.{is_ascii};
 ghost use Rattle.std.specs.List.{list_all};
 ghost use Rattle.jv_data.specs.Fails.{AnswersAs, FailsAs};
-ghost use Rattle.jv_meaning.specs.Value.{Value};
 ghost use Rattle.jv_data.specs.View.{view};
-ghost use Rattle.jq_natives.specs.private.SortedItems.{AreKeysOf, IgnoresArrays, in_array, pair_of};
-ghost use Rattle.jq_natives.specs.Sorting.{Keyed, array_of, first_of_group, keyed_answer, last_of_group, max_by_of, min_by_of, sort_by_of, sorted, unmatched_keys};
+ghost use Rattle.jq_natives.specs.private.SortedItems.{AreKeysOf, ArePairsOf, AreSortedPairsOf, FailsForPairs, in_array, pair_of};
+ghost use Rattle.jq_natives.specs.Sorting.{array_of, first_of_group, last_of_group, max_by_of, min_by_of, sort_by_of, unmatched_keys};
 
 use jv_data::{Array, Fail, Val, copies, order, raise, raise_kind};
 use std::alloc::{AllocError, Global};
@@ -62,8 +61,8 @@ pub(crate) fn sorted(
 ) -> Result<Vec<KeyedItem>, Fail>
     requires { list_all is_ascii text.now ≡ true }
     ensures { MatchResult result
-        (λ v. (f : List Keyed → Value) → IgnoresArrays f → keyed_answer (λ ps. f (sorted ps)) text.now (view value) (view keys.now) ≡ Ok (f (map pair_of v.items)))
-        (λ e. (f : List Keyed → Value) → FailsAs e (keyed_answer f text.now (view value) (view keys.now))) }
+        (λ v. AreSortedPairsOf text.now (view value) (view keys.now) (map pair_of v.items))
+        (λ e. FailsForPairs e text.now (view value) (view keys.now)) }
 {
     let mut items = keyed(alloc, value, keys, text)?;
     items.sort_by(|left, right| order(&left.key, &right.key))?;
@@ -74,8 +73,8 @@ pub(crate) fn sorted(
 fn keyed(alloc: Global, value: Val, keys: &Val, text: &str) -> Result<Vec<KeyedItem>, Fail>
     requires { list_all is_ascii text.now ≡ true }
     ensures { MatchResult result
-        (λ v. (f : List Keyed → Value) → IgnoresArrays f → keyed_answer f text.now (view value) (view keys.now) ≡ Ok (f (map pair_of v.items)))
-        (λ e. (f : List Keyed → Value) → FailsAs e (keyed_answer f text.now (view value) (view keys.now))) }
+        (λ v. ArePairsOf text.now (view value) (view keys.now) (map pair_of v.items))
+        (λ e. FailsForPairs e text.now (view value) (view keys.now)) }
 {
     match (&value, keys) {
         (Val::List(items), Val::List(keys)) => {

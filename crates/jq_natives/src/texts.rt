@@ -1,10 +1,11 @@
 // Natives on strings.
-ghost use Rattle.std.specs.Prelude.{◌≡◌, IfOk, MatchOption, Ok, length, take, drop, nat_eq, true, false, ◌-◌};
+ghost use Rattle.std.specs.Prelude.{◌≡◌, IfOk, MatchOption, Ok, nat_eq, false};
 ghost use Rattle.std.specs.List.{starts_with, ends_with};
 ghost use Rattle.std.specs.Str.{chars};
 ghost use Rattle.jv_data.specs.Fails.{AnswersAs};
 ghost use Rattle.jv_data.specs.View.{view};
 ghost use Rattle.jq_natives.specs.Texts.{split_native_of, startswith_of, endswith_of, ltrimstr_of, rtrimstr_of};
+ghost use Rattle.jq_natives.specs.private.Ends.{IsAfter, IsBefore};
 
 use jv_arith::split;
 use jv_data::{Fail, NoMemory, Val, raise};
@@ -77,8 +78,7 @@ pub(crate) fn rtrimstr(alloc: Global, value: &Val, part: &Val) -> Result<Val, No
 fn after<'a>(text: &'a str, part: &str) -> Option<&'a str>
     ensures { MatchOption result
         (starts_with nat_eq (chars text.now) (chars part.now) ≡ false)
-        (λ rest. (starts_with nat_eq (chars text.now) (chars part.now) ≡ true)
-        × (chars rest.now ≡ drop (length (chars part.now)) (chars text.now))) }
+        (λ rest. IsAfter (chars part.now) (chars text.now) (chars rest.now)) }
 {
     text.strip_prefix(part)
 }
@@ -87,8 +87,7 @@ fn after<'a>(text: &'a str, part: &str) -> Option<&'a str>
 fn before<'a>(text: &'a str, part: &str) -> Option<&'a str>
     ensures { MatchOption result
         (ends_with nat_eq (chars text.now) (chars part.now) ≡ false)
-        (λ rest. (ends_with nat_eq (chars text.now) (chars part.now) ≡ true)
-        × (chars rest.now ≡ take (length (chars text.now) - length (chars part.now)) (chars text.now))) }
+        (λ rest. IsBefore (chars part.now) (chars text.now) (chars rest.now)) }
 {
     text.strip_suffix(part)
 }

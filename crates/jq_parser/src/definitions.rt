@@ -1,10 +1,9 @@
 // The heads of definitions: their names and parameters.
 ghost use Rattle.std.specs.Prelude.{◌≡◌, map, OnOk, MatchResult, Some, None};
-ghost use Rattle.jv_meaning.specs.Text.{text_of};
 ghost use Rattle.jq_builders.specs.Views.{parameter_of};
 ghost use Rattle.jq_parser.specs.laws.Machine as m;
 ghost use Rattle.jq_parser.specs.laws.Forms as f;
-ghost use Rattle.jq_parser.specs.private.Parsing.{ahead};
+ghost use Rattle.jq_parser.specs.private.Parsing.{ahead, head_of};
 ghost use Rattle.jq_parser.specs.declared.faults.ParseFault.TheVariants.{Syntax};
 
 use crate::faults::ParseFault;
@@ -18,7 +17,7 @@ impl Parser {
     #[tactic(auto, unfolding(crate::specs::laws::Machine::function_head, crate::specs::laws::Combinators::any_name, crate::specs::laws::Combinators::any_name_on, crate::specs::laws::Combinators::and_then, crate::specs::laws::Combinators::expect))]
     pub(crate) fn function_head(&mut self) -> Result<Head, ParseFault>
         ensures frames { OnOk result (self.new.frames ≡ self.old.frames) }
-        ensures value { MatchResult result (λ h. m.function_head (ahead self.old) ≡ Some ((text_of h.name, map parameter_of h.parameters.items), ahead self.new)) (λ e. e ≡ Syntax → m.function_head (ahead self.old) ≡ None) }
+        ensures value { MatchResult result (λ h. m.function_head (ahead self.old) ≡ Some (head_of h, ahead self.new)) (λ e. e ≡ Syntax → m.function_head (ahead self.old) ≡ None) }
     {
         let Some(name) = self.name() else {
             return Err(ParseFault::Syntax);

@@ -8,9 +8,9 @@ ghost use Rattle.jq_ast.specs.Named.{named, named_as_part, named_entry};
 ghost use Rattle.jq_lexer.specs.Views.{symbol_of, token_of};
 ghost use Rattle.jq_parser.specs.laws.Machine as m;
 ghost use Rattle.jq_builders.specs.Trees.{onto, branch_before};
-ghost use Rattle.jq_builders.specs.Views.{tree_in, pattern_in, maybe, branch_of, piece_of, value_key_of, parameter_of, definition_of};
+ghost use Rattle.jq_builders.specs.Views.{tree_in, pattern_in, maybe, branch_of, piece_of, value_key_of, definition_of};
 ghost use Rattle.jq_parser.specs.declared.faults.ParseFault.TheVariants.{NoMemory};
-ghost use Rattle.jq_parser.specs.private.Parsing.{Turns, ahead, waiting, text_use_of, definition_use_of, fold_of, frame_of, operator_frame_of, scope_frame_of, term_frame_of, block_frame_of, object_frame_of};
+ghost use Rattle.jq_parser.specs.private.Parsing.{Turns, ahead, waiting, text_use_of, definition_frame_of, definition_use_of, fold_of, frame_of, operator_frame_of, scope_frame_of, term_frame_of, block_frame_of, object_frame_of};
 
 use crate::faults::ParseFault;
 use crate::forms::{
@@ -316,7 +316,7 @@ impl Parser {
         head: Head,
         t: Box<Tree>,
     ) -> Result<Mode, ParseFault>
-        ensures { Turns result self.new (m.have_turn (tree_in t) (m.definition_body (definition_use_of usage) (text_of head.name) (map parameter_of head.parameters.items) ∷ waiting self.old) (ahead self.old)) }
+        ensures { Turns result self.new (m.have_turn (tree_in t) (definition_frame_of usage head ∷ waiting self.old) (ahead self.old)) }
     {
         self.expect(Symbol::Semicolon)?;
         Ok(Mode::AfterDefinition(usage, Definition { head, body: t }))

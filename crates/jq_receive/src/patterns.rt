@@ -6,7 +6,6 @@ ghost use Rattle.jv_data.specs.View.{view};
 ghost use Rattle.jq_ast.specs.Named.{named_as_pattern};
 ghost use Rattle.jq_meaning.specs.Runs.{Run};
 ghost use Rattle.jq_machine.specs.Matching as machine;
-ghost use Rattle.jq_machine.specs.State as task;
 ghost use Rattle.jq_state.specs.Environments.{count_of};
 ghost use Rattle.jq_state.specs.Links.{scope_in};
 ghost use Rattle.jq_state.specs.Nexts.{ComesTo, on_remaining, transition};
@@ -63,7 +62,7 @@ pub fn match_later<'p>(
     scope: Scope,
 ) -> Result<Next<'p>, NoMemory>
     requires { scope.env < count_of state.old.nodes }
-    ensures { IfOk result (λ n. ComesTo (λ inputs. machine.match_later (tasks_of remaining.entry.value.tasks.items) (binder_of remaining.entry.value.binder) (scope_in (envs_in inputs state.old) scope) (frames_in inputs state.old) (forks_in inputs state.old)) state.new n) }
+    ensures { IfOk result (λ n. ComesTo (transition state.old scope (on_remaining remaining.entry.value machine.match_later)) state.new n) }
 {
     match remaining.tasks.pop() {
         Some(Task::Items(patterns, index, value)) => {

@@ -1,5 +1,5 @@
 -- The same as in the code, where a box is opened before its tree is resolved.
-use Rattle.std.proofs.Common.{◌≡◌, ◌-◌, ◌∷◌, length, drop, String, Global, Box, Bool, sym, subst}
+use Rattle.std.proofs.Common.{◌≡◌, ◌-◌, ◌∷◌, length, drop, OnOk, Result, Ok, Err, String, Global, Box, Bool, sym, subst}
 use Rattle.jv_meaning.specs.Text.{text_of}
 use Rattle.jq_tree.specs.Names.{Scope, to_label}
 use Rattle.jq_ast.specs.declared.leaves.Key.{Key}
@@ -36,9 +36,10 @@ arm_Negation s t x y f g r e d = in_Negation s t f g (at s t x y f g r e d)
 pub arm_Array : (s t : Scope) (x y : Tree) (f g : Box Tree Global) → IsResolved s t x y → x ≡ f.value → y ≡ g.value → IsResolved s t (code.Array f) (code.Array g)
 arm_Array s t x y f g r e d = in_Array s t f g (at s t x y f g r e d)
 
--- three parts in one scope
-abbrev pub AreResolved : (s t : Scope) (x x' y y' z z' : Tree) → Type 0
-AreResolved s t x x' y y' z z' = IsResolved s t x x' × IsResolved s t y y' × IsResolved s t z z'
+-- a clause that follows from three others
+pub on_ok_three : {A E : Type 0} (r : Result A E) {P Q S R : Type 0} → OnOk r P → OnOk r Q → OnOk r S → (P → Q → S → R) → OnOk r R
+on_ok_three (Ok a) p q s f = f p q s
+on_ok_three (Err e) p q s f = tt
 
 pub of_entry : (s t : Scope) (old new z : Entry Tree) → old ≡ z → IsEntryResolved s t z new → IsEntryResolved s t old new
 of_entry s t old new z e r = subst (λ o. IsEntryResolved s t o new) (sym e) r

@@ -122,8 +122,9 @@ fn resolve_three(
     second: &mut Box<Tree>,
     third: &mut Box<Tree>,
 ) -> Result<(), NoMemory>
-    ensures { OnOk result (ResolvedIn scope.old scope.new first.old.value first.new.value × ResolvedIn scope.old scope.new second.old.value second.new.value
-        × ResolvedIn scope.old scope.new third.old.value third.new.value) }
+    ensures first { OnOk result (ResolvedIn scope.old scope.new first.old.value first.new.value) }
+    ensures second { OnOk result (ResolvedIn scope.old scope.new second.old.value second.new.value) }
+    ensures third { OnOk result (ResolvedIn scope.old scope.new third.old.value third.new.value) }
 {
     resolve_tree(scope, first)?;
     resolve_tree(scope, second)?;

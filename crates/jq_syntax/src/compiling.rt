@@ -3,12 +3,12 @@ ghost use Rattle.std.specs.Prelude.{◌≡◌, IfOk, IfErr, OnOk, [], length};
 ghost use Rattle.std.specs.Str.{chars};
 ghost use Rattle.jq_ast.specs.Named.{named};
 ghost use Rattle.jq_syntax.specs.Chosen.{setting_of};
-ghost use Rattle.jq_resolver.specs.Programs.{bound_program, named_program, variable_names};
-ghost use Rattle.jq_tree.specs.Binders.{bound_filter, uses, without_binder};
+ghost use Rattle.jq_resolver.specs.Programs.{bound_program, named_program};
+ghost use Rattle.jq_tree.specs.Binders.{uses, without_binder};
 ghost use Rattle.jq_tree.specs.Filter.{HasPlan, reads};
 ghost use Rattle.jq_inputs.specs.Plans.{view_of};
 ghost use Rattle.jq_syntax.specs.Compiled.{IsProgramOf, IsRefusal};
-ghost use Rattle.jq_syntax.specs.private.Checks.{IsUnbound, IsFitForInputs, IsMisread, IsUnfit};
+ghost use Rattle.jq_syntax.specs.private.Checks.{IsUnbound, IsFitForInputs, IsMisread, IsUnfit, bound_under};
 
 use crate::faults::CompileFault;
 use crate::options::Options;
@@ -53,12 +53,11 @@ fn bind(
 ) -> Result<bool, CompileFault>
     ensures names { OnOk result (named_program functions.new.items tree.new ≡ named_program functions.old.items tree.old) }
     ensures tree { OnOk result (named tree.new ≡ named tree.old) }
-    ensures binders { OnOk result (bound_program functions.new.items tree.new (length options.now.vars.items)
-        ≡ bound_filter (variable_names options.now.vars.items) (named_program functions.old.items tree.old)) }
-    ensures bound { OnOk result (without_binder (uses (bound_filter (variable_names options.now.vars.items) (named_program functions.old.items tree.old))) ≡ []) }
+    ensures binders { OnOk result (bound_program functions.new.items tree.new (length options.now.vars.items) ≡ bound_under options.now functions.old.items tree.old) }
+    ensures bound { OnOk result (without_binder (uses (bound_under options.now functions.old.items tree.old)) ≡ []) }
     ensures fit { OnOk result (IsFitForInputs options.now.null (named tree.old)) }
     ensures reads { IfOk result (λ r. r ≡ reads (named tree.old)) }
-    ensures fault { IfErr result (IsUnfit options.now.null (bound_filter (variable_names options.now.vars.items) (named_program functions.old.items tree.old)) (named tree.old)) }
+    ensures fault { IfErr result (IsUnfit options.now.null (bound_under options.now functions.old.items tree.old) (named tree.old)) }
 {
     set_referents(alloc, options, functions, tree)?;
     check_names(alloc, options.vars.len(), functions.as_slice(), tree)?;
@@ -74,8 +73,7 @@ fn set_referents(
 ) -> Result<(), NoMemory>
     ensures names { OnOk result (named_program functions.new.items tree.new ≡ named_program functions.old.items tree.old) }
     ensures tree { OnOk result (named tree.new ≡ named tree.old) }
-    ensures binders { OnOk result (bound_program functions.new.items tree.new (length options.now.vars.items)
-        ≡ bound_filter (variable_names options.now.vars.items) (named_program functions.old.items tree.old)) }
+    ensures binders { OnOk result (bound_program functions.new.items tree.new (length options.now.vars.items) ≡ bound_under options.now functions.old.items tree.old) }
 {
     resolve(alloc, options.vars.as_slice(), functions, tree)
 }

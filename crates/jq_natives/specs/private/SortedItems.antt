@@ -1,10 +1,13 @@
--- The pairs that the code's keyed items represent, keys that are each in an array, and how items are grouped one after the other.
-use Rattle.std.specs.Prelude.{◌≡◌, ◌⊎◌, List, [], ◌∷◌, map, Bool, true, Vec}
+-- The pairs that the code's keyed items represent, keys that are each in an array, how items are grouped one after the other, and
+-- which pairs an array and its keys give.
+use Rattle.std.specs.Prelude.{◌≡◌, ◌⊎◌, ℕ, List, [], ◌∷◌, map, Bool, true, Ok, Vec}
 use Rattle.std.specs.declared.alloc.Global.{Global}
+use Rattle.jv_data.specs.Fails.{FailsAs}
 use Rattle.jv_data.specs.View.{view}
+use Rattle.jv_data.specs.declared.failures.Fail.{Fail}
 use Rattle.jv_meaning.specs.Value.{Value, array, item, no_items}
 use Rattle.jq_natives.specs.Answers.{is_same}
-use Rattle.jq_natives.specs.Sorting.{Keyed, key, kept_item}
+use Rattle.jq_natives.specs.Sorting.{Keyed, key, kept_item, keyed_answer, sorted}
 use Rattle.jq_natives.specs.declared.sorting.KeyedItem.{KeyedItem}
 
 abbrev pub pair_of : KeyedItem → Keyed
@@ -33,3 +36,15 @@ AreKeysOf ks vs = (ks ≡ vs) ⊎ (ks ≡ map in_array vs)
 -- what f makes of pairs stays the same if each key is put into an array
 abbrev pub IgnoresArrays : (List Keyed → Value) → Type 0
 IgnoresArrays f = (ps : List Keyed) → f (map key_in_array ps) ≡ f ps
+
+-- The answer of each f that ignores such arrays is what it makes of these pairs, the items with their keys.
+abbrev pub ArePairsOf : (text : List ℕ) → (value keys : Value) → List Keyed → Type 0
+ArePairsOf text v k ps = (f : List Keyed → Value) → IgnoresArrays f → keyed_answer f text v k ≡ Ok (f ps)
+
+-- The same, where f gets the items in the order of their keys.
+abbrev pub AreSortedPairsOf : (text : List ℕ) → (value keys : Value) → List Keyed → Type 0
+AreSortedPairsOf text v k ps = (f : List Keyed → Value) → IgnoresArrays f → keyed_answer (λ qs. f (sorted qs)) text v k ≡ Ok (f ps)
+
+-- The failure is the error of the answer of each f, or memory ran out.
+abbrev pub FailsForPairs : Fail → (text : List ℕ) → (value keys : Value) → Type 0
+FailsForPairs e text v k = (f : List Keyed → Value) → FailsAs e (keyed_answer f text v k)

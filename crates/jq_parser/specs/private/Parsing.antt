@@ -2,12 +2,15 @@
 use Rattle.std.specs.Prelude.{◌≡◌, ℕ, List, [], ◌∷◌, map, Option, Some, None, Bool, true, false, Result, MatchResult, ◌==◌}
 use Rattle.jv_meaning.specs.Text.{text_of}
 use Rattle.jq_tree.specs.Tree as tree
+use Rattle.jq_tree.specs.Tree.{Name}
 use Rattle.jq_tree.specs.Token.{Keyword, Token, keyword, name, field, variable, piece, interpolation}
 use Rattle.jq_tree.specs.Token as token
 use Rattle.jq_tree.specs.Grammar.{level_of, to_field, with_suffix}
+use Rattle.jq_tree.specs.WrittenOut.{Parameter}
 use Rattle.jq_lexer.specs.Views.{token_of}
 use Rattle.jq_ast.specs.Named.{named, named_as_pattern, named_as_part, named_entry}
 use Rattle.jq_builders.specs.Views.{tree_in, pattern_in, maybe, branch_of, piece_of, pieces_of, value_key_of, part_key_of, parameter_of, definition_of}
+use Rattle.jq_builders.specs.declared.parts.Head.{Head}
 use Rattle.jq_parser.specs.laws.Machine as m
 use Rattle.jq_parser.specs.declared.faults.ParseFault.{ParseFault}
 use Rattle.jq_parser.specs.declared.faults.ParseFault.TheVariants.{Syntax}
@@ -48,6 +51,14 @@ abbrev pub definition_use_of : DefinitionUse → m.DefinitionUse
 definition_use_of (definition_use.InPipe before) = m.in_pipe (maybe before)
 definition_use_of definition_use.InMain = m.in_main
 
+-- the name and the parameters of a definition
+abbrev pub head_of : Head → Name × List Parameter
+head_of h = (text_of h.name, map parameter_of h.parameters.items)
+
+-- the frame of a definition that waits for its body
+abbrev pub definition_frame_of : DefinitionUse → Head → m.Frame
+definition_frame_of d h = m.definition_body (definition_use_of d) (text_of h.name) (map parameter_of h.parameters.items)
+
 abbrev pub fold_of : Fold → m.Fold
 fold_of fold.Reducing = m.reducing
 fold_of fold.Iterating = m.iterating
@@ -63,7 +74,7 @@ operator_frame_of (operator_frame.EndsOperand before) = m.ends_operand (maybe be
 operator_frame_of (operator_frame.Piped a) = m.piped (tree_in a)
 
 abbrev pub scope_frame_of : ScopeFrame → m.Frame
-scope_frame_of (scope_frame.DefinitionBody d h) = m.definition_body (definition_use_of d) (text_of h.name) (map parameter_of h.parameters.items)
+scope_frame_of (scope_frame.DefinitionBody d h) = definition_frame_of d h
 scope_frame_of (scope_frame.DefinitionRest before d) = m.definition_rest (maybe before) (definition_of d)
 scope_frame_of (scope_frame.MainRest d) = m.main_rest (definition_of d)
 scope_frame_of (scope_frame.LabelRest before n) = m.label_rest (maybe before) (text_of n)

@@ -1,14 +1,22 @@
--- The checks of a filter's tree.
+-- The binders of a program's names, and the checks of a filter's tree.
 use Rattle.std.specs.Prelude.{◌≡◌, ◌⊎◌, List, [], ◌∷◌, Bool, true, false}
 use Rattle.jq_tree.specs.Tree.{Tree}
 use Rattle.jq_tree.specs.Names.{Reference}
 use Rattle.jq_tree.specs.BoundTree.{BoundTree}
-use Rattle.jq_tree.specs.Binders.{uses, without_binder}
+use Rattle.jq_tree.specs.Binders.{bound_filter, uses, without_binder}
 use Rattle.jq_tree.specs.Inputs.{InputsInPlace}
 use Rattle.jq_tree.specs.Filter.{reads}
+use Rattle.jq_ast.specs.declared.tree.Function.{Function}
+use Rattle.jq_ast.specs.declared.tree.Tree as ast
+use Rattle.jq_resolver.specs.Programs.{named_program, variable_names}
 use Rattle.jq_resolver.specs.Undefined.{reference_of}
 use Rattle.jq_syntax.specs.declared.faults.CompileFault.{CompileFault}
 use Rattle.jq_syntax.specs.declared.faults.CompileFault.TheVariants as fault
+use Rattle.jq_syntax.specs.declared.options.Options.{Options}
+
+-- The functions and the tree as one filter with the binder of each name, inside the variables of the options.
+abbrev pub bound_under : Options → List (Function ast.Tree) → ast.Tree → BoundTree
+bound_under o fs t = bound_filter (variable_names o.vars.items) (named_program fs t)
 
 -- The fault names the first of these names, which nothing binds.
 abbrev pub IsUnbound : List Reference → CompileFault → Type 0

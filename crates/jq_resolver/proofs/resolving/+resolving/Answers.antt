@@ -2,7 +2,7 @@ use Rattle.std.proofs.Common.{rules, refl, ◌∙◌, ◌≡◌, ◌<◌, length
 use Rattle.jq_ast.specs.declared.tree.Tree as X
 use Rattle.jq_ast.specs.declared.tree.Pattern as Y
 use Rattle.jv_meaning.proofs.shared.Results.{on_ok_map}
-use Rattle.jq_resolver.proofs.Arms.{AreResolved, of_part, of_entry, entry_value, entry_both, entry_own, arm_Field, arm_Iterate, arm_Negation, arm_Array, arm_Label, arm_BindAs, arm_Reduce, arm_Foreach, arm_Define, arm_Keyed}
+use Rattle.jq_resolver.proofs.Arms.{on_ok_three, of_part, of_entry, entry_value, entry_both, entry_own, arm_Field, arm_Iterate, arm_Negation, arm_Array, arm_Label, arm_BindAs, arm_Reduce, arm_Foreach, arm_Define, arm_Keyed}
 use Rattle.jq_resolver.proofs.Parts.{two_resolved, three_resolved, in_Index, in_Pipe, in_Comma, in_Binary, in_And, in_Or, in_Alternative, in_TryCatch, in_Slice, in_Choice}
 use Rattle.jq_resolver.proofs.Forms.{in_Text, in_Object, in_Call, in_PreludeCall, in_Items, in_Members, definition_resolved}
 use Rattle.jq_resolver.proofs.Lists.{chain_step, unvisited_step}
@@ -77,14 +77,20 @@ resolve_pair-returns-in-TryCatch t c =
 pub resolve_tree-returns-in-Slice : goal.resolve_tree-returns-in-Slice
 unfolding X.out-Tree denote.Hole.Carrier.out
 resolve_tree-returns-in-Slice t c =
-    let h = rw c.in-Slice.is at c.resolve_three.ensures in
-    rw c.in-Slice.is (on_ok_map _ {P = AreResolved _ _ _ _ _ _ _ _} h (λ r. in_Slice _ _ c.in-Slice.target _ c.in-Slice.from _ c.in-Slice.to _ _ r.0 r.1 r.2))
+    let e = c.resolve_three.ensures in
+    let first = rw c.in-Slice.is at e.first in
+    let second = rw c.in-Slice.is at e.second in
+    let third = rw c.in-Slice.is at e.third in
+    rw c.in-Slice.is (on_ok_three _ {P = IsResolved _ _ _ _} {Q = IsResolved _ _ _ _} {S = IsResolved _ _ _ _} first second third (λ p q r. in_Slice _ _ c.in-Slice.target _ c.in-Slice.from _ c.in-Slice.to _ _ p q r))
 
 pub resolve_tree-returns-in-Choice : goal.resolve_tree-returns-in-Choice
 unfolding X.out-Tree denote.Hole.Carrier.out
 resolve_tree-returns-in-Choice t c =
-    let h = rw c.in-Choice.is at c.resolve_three-in-Choice.ensures in
-    rw c.in-Choice.is (on_ok_map _ {P = AreResolved _ _ _ _ _ _ _ _} h (λ r. in_Choice _ _ c.in-Choice.test _ c.in-Choice.holds _ c.in-Choice.fails _ r.0 r.1 r.2))
+    let e = c.resolve_three-in-Choice.ensures in
+    let first = rw c.in-Choice.is at e.first in
+    let second = rw c.in-Choice.is at e.second in
+    let third = rw c.in-Choice.is at e.third in
+    rw c.in-Choice.is (on_ok_three _ {P = IsResolved _ _ _ _} {Q = IsResolved _ _ _ _} {S = IsResolved _ _ _ _} first second third (λ p q r. in_Choice _ _ c.in-Choice.test _ c.in-Choice.holds _ c.in-Choice.fails _ p q r))
 
 pub resolve_tree-returns-in_ok-resolve_pieces-in-Text : goal.resolve_tree-returns-in_ok-resolve_pieces-in-Text
 unfolding X.out-Tree denote.Hole.Carrier.out
@@ -99,10 +105,20 @@ resolve_two-returns t c =
     let both = two_resolved _ _ _ _ _ _ _ c.in_ok-resolve_tree.ensures c.in_ok-resolve_tree-2.ensures in
     (of_part _ _ _ _ _ both.0 (search rules), of_part _ _ _ _ _ both.1 (search rules))
 
-pub resolve_three-returns : goal.resolve_three-returns
-resolve_three-returns t c =
+pub resolve_three-returns-clause-first : goal.resolve_three-returns-clause-first
+resolve_three-returns-clause-first t c =
     let all = three_resolved _ _ _ _ _ _ _ _ _ _ c.in_ok-resolve_tree.ensures c.in_ok-resolve_tree-2.ensures c.in_ok-resolve_tree-3.ensures in
-    (of_part _ _ _ _ _ all.0 (search rules), of_part _ _ _ _ _ all.1 (search rules), of_part _ _ _ _ _ all.2 (search rules))
+    of_part _ _ _ _ _ all.0 (search rules)
+
+pub resolve_three-returns-clause-second : goal.resolve_three-returns-clause-second
+resolve_three-returns-clause-second t c =
+    let all = three_resolved _ _ _ _ _ _ _ _ _ _ c.in_ok-resolve_tree.ensures c.in_ok-resolve_tree-2.ensures c.in_ok-resolve_tree-3.ensures in
+    of_part _ _ _ _ _ all.1 (search rules)
+
+pub resolve_three-returns-clause-third : goal.resolve_three-returns-clause-third
+resolve_three-returns-clause-third t c =
+    let all = three_resolved _ _ _ _ _ _ _ _ _ _ c.in_ok-resolve_tree.ensures c.in_ok-resolve_tree-2.ensures c.in_ok-resolve_tree-3.ensures in
+    of_part _ _ _ _ _ all.2 (search rules)
 
 pub resolve_label-returns : goal.resolve_label-returns
 resolve_label-returns t c = arm_Label (bound_names c.args.scope.now) _ _ (bound_names c.leave.new.self) c.args.name.now _ _ _ c.args.body.now _ c.in_ok-resolve_tree.ensures (search rules) refl (search rules) (search rules) refl
