@@ -16,7 +16,8 @@ pub record IsFed (ended : Bool) (room : ℕ) (remaining_old remaining_new : Opti
   pub at_end : ended ≡ true → IsAtEnd remaining_new
   pub count : ended ≡ false → fed_count new ≤ fed_count old + room
 
--- The next bytes, at most so many, were perhaps read and not fed. After a read fault none was read, and the reader has failed.
+-- The next bytes, at most so many, were perhaps read and not fed. After a read fault none was read, and the reader has failed. There is
+-- no write fault.
 pub record IsUnfed (fault : StreamFault) (room : ℕ) (remaining_old remaining_new : Option (List ℕ)) (failures_old failures_new : ℕ) : Type 0 where
   pub lost : (bytes : List ℕ) × Consumes remaining_old remaining_new bytes × (length bytes ≤ room)
   pub unread : fault ≡ Read → Keeps remaining_old remaining_new
