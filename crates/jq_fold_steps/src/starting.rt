@@ -2,9 +2,8 @@
 ghost use Rattle.std.specs.Prelude.{◌≡◌, ◌<◌, ℕ, List, Some, true, IfOk};
 ghost use Rattle.jv_data.specs.View.{view};
 ghost use Rattle.jq_meaning.specs.Env.{Env};
-ghost use Rattle.jq_meaning.specs.Runs.{none, plain};
+ghost use Rattle.jq_meaning.specs.Runs.{plain};
 ghost use Rattle.jq_starts.specs.Starts.{HasStartedAtMost};
-ghost use Rattle.jq_state.specs.Inputs.{inputs_of};
 ghost use Rattle.jq_state.specs.Items.{item_of};
 ghost use Rattle.jq_state.specs.Links.{scope_in};
 ghost use Rattle.jq_state.specs.Nexts.{NextFits, next_in};

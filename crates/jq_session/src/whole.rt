@@ -43,7 +43,7 @@ impl WholeSession {
     ghost use Rattle.jq_session.specs.Sessions.{IsMoveRefusal, IsRefusal, IsStartRefusal, whole_state};
     ghost use Rattle.jq_session.specs.Splices.{Follows, FollowsMove};
     ghost use Rattle.jq_session.specs.Starts.{IsMoveStarted, IsStarted};
-    ghost use Rattle.jq_session.specs.States.{State, after, after_move, outcome, over};
+    ghost use Rattle.jq_session.specs.States.{after, after_move, outcome, over};
 
     /// Makes all runs on these inputs.
     pub(crate) fn start(
