@@ -1,21 +1,10 @@
 // Laws of a filter in the bindings of its program, of runs up to a halt, and of filters that never halt.
-ghost use Rattle.std.specs.Prelude.{◌≡◌, ◌≤◌, ℕ, List, None, length, map};
-ghost use Rattle.jv_meaning.specs.Value.{Value};
+ghost use Rattle.std.specs.Prelude.{◌≡◌, ◌≤◌, List, None, length};
 ghost use Rattle.jv_text.specs.Stream.{Values};
-ghost use Rattle.jq_ast.specs.Named.{named};
-ghost use Rattle.jq_ast.specs.declared.tree.Function.{Function};
-ghost use Rattle.jq_ast.specs.declared.tree.Tree.{Tree};
-ghost use Rattle.jq_bindings.specs.Programs.{program_env, with_bindings};
-ghost use Rattle.jq_meaning.specs.Env.{outermost, with_variables};
-ghost use Rattle.jq_meaning.specs.Meaning.{meaning};
 ghost use Rattle.jq_meaning.specs.Runs.{Run, Item};
-ghost use Rattle.jq_resolver.specs.Programs.{named_program};
-ghost use Rattle.jq_state.specs.Nodes.{program_binding};
-ghost use Rattle.jq_state.specs.declared.environments.ProgramBinding.{ProgramBinding};
-ghost use Rattle.jq_tree.specs.Tree.{Name};
 ghost use Rattle.jq_filters.specs.Outcomes.{Job, Mode, first_halt, runs_in, up_to_halt};
-ghost use Rattle.jq_filters.specs.Programs.{bindings_of, function_binding};
 ghost use Rattle.jq_filters.specs.Unhalted.{NeverHalts};
+ghost use Rattle.jq_filters.specs.laws.Bindings.{BindingsStandForThePrelude, FunctionsComeAfterTheVariables};
 ghost use Rattle.jq_filters.specs.laws.Unhalted.{NeverHaltsAfterThePrelude, NeverHaltsInItsBindings};
 
 use jq_syntax::prelude_laws::{only_halt_error_halts, prelude_is_accepted};
@@ -23,15 +12,13 @@ use jq_syntax::prelude_laws::{only_halt_error_halts, prelude_is_accepted};
 /// A filter in the bindings of its program has the meaning of the filter after the prelude, in the variables.
 #[tactic(auto, using(crate::proofs::Around::runs_as_whole))]
 pub fn bindings_stand_for_the_prelude()
-    ensures { (d : ℕ) (vs : List (Name × Value)) (fs : List (Function Tree)) (t : Tree) (bs : List ProgramBinding) (inputs : Run Value) (x : Item) → map program_binding bs ≡ bindings_of vs fs
-        → meaning d (named t) (program_env (map program_binding bs) (length bs) inputs) 0 x ≡ meaning d (named_program fs t) (with_variables vs (outermost inputs)) 0 x }
+    ensures { BindingsStandForThePrelude }
 {}
 
 /// The bindings of a program are those of its functions, around which are the variables.
 #[tactic(auto, using(crate::proofs::Around::around))]
 pub fn functions_come_after_the_variables()
-    ensures { (vs : List (Name × Value)) (fs : List (Function Tree)) (bs : List ProgramBinding) (inputs : Run Value) → map program_binding bs ≡ bindings_of vs fs
-        → program_env (map program_binding bs) (length bs) inputs ≡ with_bindings (map function_binding fs) (with_variables vs (outermost inputs)) }
+    ensures { FunctionsComeAfterTheVariables }
 {}
 
 /// If no run halts, all are made. If one halts, no more runs are made than there are.

@@ -8,7 +8,7 @@ ghost use Rattle.jq_folds.specs.Pieces.{Stepped, with_state};
 ghost use Rattle.jq_folds.specs.laws.States.{LeadsTo};
 ghost use Rattle.jq_pages.specs.Pieces.{piece_view};
 ghost use Rattle.jq_filters.specs.Pieces.{piece_of};
-ghost use Rattle.jq_fold_steps.specs.private.Collecting.{IsHeld, IsKept, piece_so_far};
+ghost use Rattle.jq_fold_steps.specs.private.Collecting.{EndsStep, IsHeld, IsKept, piece_so_far};
 
 use crate::fold_steps::FoldState;
 use crate::pieces::{add_output, empty_piece, report};
@@ -90,8 +90,7 @@ fn end_step(
     ending: Ending,
     style: Style,
 ) -> Result<(Piece, FoldState), NoMemory>
-    ensures { IfOk result (λ r. (s : Stepped) (done xs : List Item) → LeadsTo s.run.ending s.next → piece_view piece ≡ piece_so_far style done → IsHeld held done xs
-        → with_state s ≡ record { items = done ++ xs; ending = ending_of ending } → IsKept style s r.0 r.1) }
+    ensures { IfOk result (λ r. EndsStep style piece held (ending_of ending) r.0 r.1) }
 {
     match held {
         Some(value) => end_with(alloc, piece, value, ending, style),
@@ -107,8 +106,7 @@ fn end_with(
     ending: Ending,
     style: Style,
 ) -> Result<(Piece, FoldState), NoMemory>
-    ensures { IfOk result (λ r. (s : Stepped) (done xs : List Item) → LeadsTo s.run.ending s.next → piece_view piece ≡ piece_so_far style done → IsHeld (Some value) done xs
-        → with_state s ≡ record { items = done ++ xs; ending = ending_of ending } → IsKept style s r.0 r.1) }
+    ensures { IfOk result (λ r. EndsStep style piece (Some value) (ending_of ending) r.0 r.1) }
 {
     if let Ending::Done = ending {
         return Ok((piece, FoldState::Going(value)));
@@ -124,8 +122,7 @@ fn end_without(
     mut piece: Piece,
     ending: Ending,
 ) -> Result<(Piece, FoldState), NoMemory>
-    ensures { IfOk result (λ r. (style : PrintStyle) (s : Stepped) (done xs : List Item) → LeadsTo s.run.ending s.next → piece_view piece ≡ piece_so_far style done → IsHeld None done xs
-        → with_state s ≡ record { items = done ++ xs; ending = ending_of ending } → IsKept style s r.0 r.1) }
+    ensures { IfOk result (λ r. (style : PrintStyle) → EndsStep style piece None (ending_of ending) r.0 r.1) }
 {
     report(alloc, &mut piece, &ending)?;
     Ok((piece, FoldState::Stopped))

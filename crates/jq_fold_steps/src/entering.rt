@@ -1,9 +1,7 @@
 // The fold of a filter, in a state where nothing was run yet.
 ghost use Rattle.std.specs.Prelude.{◌≡◌, IfOk, IfSome, option_map};
-ghost use Rattle.jq_ast.specs.Named.{named};
-ghost use Rattle.jq_folds.specs.Folding.{fold_in};
-ghost use Rattle.jq_fold_steps.specs.Bindings.{env_of};
 ghost use Rattle.jq_fold_steps.specs.private.Entered.{entered_in, IsEntered};
+ghost use Rattle.jq_fold_steps.specs.private.Starting.{fold_of_runner};
 
 use crate::placing::{Parts, Place, enter_definitions};
 use jq_filters::Runner;
@@ -22,7 +20,7 @@ pub(crate) struct Entered<'p> {
 
 /// The fold of a filter, if it has one, after its definitions.
 pub(crate) fn enter<'p>(alloc: Global, runner: Runner<'p>) -> Result<Option<Entered<'p>>, NoMemory>
-    ensures fold { IfOk result (λ o. option_map entered_in o ≡ fold_in (named runner.entry.tree.now) (env_of runner.entry.bindings.now)) }
+    ensures fold { IfOk result (λ o. option_map entered_in o ≡ fold_of_runner runner.entry) }
     ensures entered { IfOk result (λ o. IfSome o (IsEntered runner.entry.depth)) }
 {
     let mut state = State::new(alloc, runner.bindings)?;

@@ -5,8 +5,7 @@ ghost use Rattle.jv_text.specs.Printed.{printed};
 ghost use Rattle.jq_natives.specs.Answers.{is_true};
 ghost use Rattle.jq_backtracking.specs.Outcomes.{ending_of};
 ghost use Rattle.jq_pages.specs.Pieces.{piece_view};
-ghost use Rattle.jq_state.specs.Nexts.{stop_of};
-ghost use Rattle.jq_filters.specs.Outcomes.{ending_report, error_line, error_prefix, halt_status, is_failure, last_by, stop_report};
+ghost use Rattle.jq_filters.specs.Outcomes.{error_line, error_prefix, last_by};
 ghost use Rattle.jq_filters.specs.Pieces.{last_in, no_piece};
 ghost use Rattle.jq_fold_steps.specs.private.Collecting.{IsAdded, IsReported};
 

@@ -1,20 +1,16 @@
 // The runs of a fold's pieces.
 ghost use Rattle.std.specs.Prelude.{◌≡◌, ◌<◌, ℕ, List, Some, true, IfOk};
 ghost use Rattle.jv_data.specs.View.{view};
-ghost use Rattle.jq_ast.specs.Named.{named};
 ghost use Rattle.jq_meaning.specs.Env.{Env};
-ghost use Rattle.jq_meaning.specs.Runs.{none, plain};
+ghost use Rattle.jq_meaning.specs.Runs.{plain};
 ghost use Rattle.jq_starts.specs.Starts.{HasStartedAtMost};
-ghost use Rattle.jq_state.specs.Inputs.{inputs_of};
 ghost use Rattle.jq_state.specs.Items.{item_of};
 ghost use Rattle.jq_state.specs.Links.{scope_in};
 ghost use Rattle.jq_state.specs.Nexts.{NextFits, next_in};
-ghost use Rattle.jq_folds.specs.Folding.{fold_in};
 ghost use Rattle.jq_folds.specs.Pieces.{begun, with_state};
-ghost use Rattle.jq_fold_steps.specs.Bindings.{env_of};
 ghost use Rattle.jq_fold_steps.specs.Folded.{start_of, starts_once, steps_at};
 ghost use Rattle.jq_fold_steps.specs.private.Parts.{closing_of};
-ghost use Rattle.jq_fold_steps.specs.private.Starting.{closing_next, IsRun, IsRunOf};
+ghost use Rattle.jq_fold_steps.specs.private.Starting.{closing_next, fold_of_runner, IsRun, IsRunOf};
 
 use crate::entering::{Entered, enter};
 use crate::placing::{Closing, Extraction};
@@ -37,8 +33,8 @@ pub(crate) fn begin<'p>(
     starts: &mut Starts,
     runner: Runner<'p>,
 ) -> Result<Option<Engine<'p>>, NoMemory>
-    requires { starts_once (fold_in (named runner.tree.now) (env_of runner.bindings.now)) ≡ true }
-    ensures run { IfOk result (λ o. IsRunOf o (fold_in (named runner.entry.tree.now) (env_of runner.entry.bindings.now)) (λ f. with_state (begun (start_of runner.entry.depth f)))) }
+    requires { starts_once (fold_of_runner runner) ≡ true }
+    ensures run { IfOk result (λ o. IsRunOf o (fold_of_runner runner.entry) (λ f. with_state (begun (start_of runner.entry.depth f)))) }
     ensures started { HasStartedAtMost 1 starts.old starts.new }
 {
     the_machine_makes_the_pieces();
@@ -67,7 +63,7 @@ pub(crate) fn step<'p>(
     last: Val,
     input: Val,
 ) -> Result<Option<Engine<'p>>, NoMemory>
-    ensures run { IfOk result (λ o. IsRunOf o (fold_in (named runner.entry.tree.now) (env_of runner.entry.bindings.now)) (λ f. with_state ((steps_at runner.entry.depth (Some f)).step (plain (view last)) (view input)))) }
+    ensures run { IfOk result (λ o. IsRunOf o (fold_of_runner runner.entry) (λ f. with_state ((steps_at runner.entry.depth (Some f)).step (plain (view last)) (view input)))) }
     ensures started { HasStartedAtMost 1 starts.old starts.new }
 {
     the_machine_makes_the_pieces();
@@ -95,7 +91,7 @@ pub(crate) fn close<'p>(
     runner: Runner<'p>,
     last: Val,
 ) -> Result<Option<Engine<'p>>, NoMemory>
-    ensures run { IfOk result (λ o. IsRun o ((steps_at runner.entry.depth (fold_in (named runner.entry.tree.now) (env_of runner.entry.bindings.now))).close (plain (view last)))) }
+    ensures run { IfOk result (λ o. IsRun o ((steps_at runner.entry.depth (fold_of_runner runner.entry)).close (plain (view last)))) }
     ensures started { HasStartedAtMost 1 starts.old starts.new }
 {
     the_machine_makes_the_run_of_a_filter();

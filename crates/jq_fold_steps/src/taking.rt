@@ -2,15 +2,12 @@
 ghost use Rattle.std.specs.Prelude.{◌≡◌, ◌<◌, ◌∷◌, [], OnOk};
 ghost use Rattle.jv_meaning.specs.Value.{Value};
 ghost use Rattle.jv_data.specs.View.{view};
-ghost use Rattle.jq_ast.specs.Named.{named_as_pattern};
 ghost use Rattle.jq_meaning.specs.Runs.{Run, plain};
-ghost use Rattle.jq_machine.specs.State.{fork, fold_step, last_state, source};
+ghost use Rattle.jq_machine.specs.State.{fork, last_state};
 ghost use Rattle.jq_state.specs.Environments.{count_of};
 ghost use Rattle.jq_state.specs.Links.{scope_in};
-ghost use Rattle.jq_state.specs.Steps.{fold_of as machine_fold};
 ghost use Rattle.jq_state.specs.Views.{envs_in, frames_in, forks_in};
-ghost use Rattle.jq_folds.specs.laws.Machine.{closing_frames, stepping};
-ghost use Rattle.jq_fold_steps.specs.private.Parts.{parts_in, with_closing};
+ghost use Rattle.jq_fold_steps.specs.private.Parts.{parts_in, source_frame, taking_frames, with_closing};
 
 use crate::placing::{Closing, Extraction, Parts};
 use jq_ast::Pattern;
@@ -35,9 +32,7 @@ pub(crate) fn take_input<'p>(
     requires frames { (inputs : Run Value) → frames_in inputs state.old ≡ [] }
     requires forks { (inputs : Run Value) → forks_in inputs state.old ≡ [] }
     ensures envs { OnOk result (state.new.nodes ≡ state.old.nodes) }
-    ensures frames { OnOk result ((inputs : Run Value) → frames_in inputs state.new
-        ≡ source (parts_in parts.entry).pattern (fold_step 0 (stepping (parts_in parts.entry).update (parts_in parts.entry).extract)) (scope_in (envs_in inputs state.old) scope)
-        ∷ closing_frames (parts_in parts.entry).extract (parts_in parts.entry).closing (scope_in (envs_in inputs state.old) scope)) }
+    ensures frames { OnOk result ((inputs : Run Value) → frames_in inputs state.new ≡ taking_frames (parts_in parts.entry) (scope_in (envs_in inputs state.old) scope)) }
     ensures forks { OnOk result ((inputs : Run Value) → forks_in inputs state.new ≡ fork last_state (plain (view last) ∷ []) [] ∷ []) }
 {
     let mut cell = Vec::new(alloc);
@@ -95,7 +90,7 @@ fn push_source<'p>(
 ) -> Result<(), NoMemory>
     requires { scope.env < count_of state.old.nodes }
     ensures envs { OnOk result (state.new.nodes ≡ state.old.nodes) }
-    ensures frames { OnOk result ((inputs : Run Value) → frames_in inputs state.new ≡ source (named_as_pattern pattern.now) (fold_step 0 (machine_fold fold.entry)) (scope_in (envs_in inputs state.old) scope) ∷ frames_in inputs state.old) }
+    ensures frames { OnOk result ((inputs : Run Value) → frames_in inputs state.new ≡ source_frame pattern.now fold.entry (scope_in (envs_in inputs state.old) scope) ∷ frames_in inputs state.old) }
     ensures forks { OnOk result ((inputs : Run Value) → forks_in inputs state.new ≡ forks_in inputs state.old) }
 {
     let step = Binding::Source(pattern, Binder::FoldStep(0, fold));

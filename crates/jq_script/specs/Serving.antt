@@ -1,10 +1,12 @@
 -- What a script reads and writes, and the session that it serves. `follow` says whether `--follow` was given.
 use Rattle.std.specs.Prelude.{◌≡◌, ◌⊎◌, ◌≤◌, ℕ, List, ◌+◌, ◌++◌, length, Bool, Option, Some, None}
 use Rattle.std.specs.Io.KnownBytes.{Appends, Consumes, IsAtEnd}
+use Rattle.jq_devices.specs.Watched.{device_of}
 use Rattle.jq_devices.specs.Writing.{AppendsFirst, AppendsMore}
 use Rattle.jq_devices.specs.declared.faults.StreamFault.{StreamFault}
 use Rattle.jq_devices.specs.declared.faults.StreamFault.TheVariants.{Read, Write, NoMemory}
 use Rattle.jq_devices.specs.Reading.{IsWhole}
+use Rattle.jq_devices.specs.declared.watched.Watched.{Watched}
 use Rattle.jq_starts.specs.Starts.{starts_in}
 use Rattle.jq_starts.specs.declared.starts.Starts.{Starts}
 use Rattle.jq_session.specs.Sessions.{options_of, starts_of, state_of}
@@ -37,6 +39,10 @@ progress output p = record { output = output; point = p }
 
 abbrev pub serving : Option (List ℕ) → Option (List ℕ) → Point → Serving
 serving remaining output p = record { remaining = remaining; progress = progress output p }
+
+-- the same for a reader and a writer, by what each has
+abbrev pub serving_of : {R W : Type 0} → (left : R → Option (List ℕ)) → (written : W → Option (List ℕ)) → Watched R → Watched W → Host → Serving
+serving_of left written input output host = serving (left (device_of input)) (written (device_of output)) (point_of host)
 
 -- The answers to these lines were written, and the session is at the point after them.
 pub record Answers (follow : Bool) (lines : List (List ℕ)) (old new : Progress) : Type 0 where

@@ -2,3 +2,4 @@
 pub mod Reading
 pub mod Lines
 pub mod Replies
+pub mod Pieces

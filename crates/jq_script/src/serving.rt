@@ -1,9 +1,10 @@
 // A script is read in pieces, and each of its lines is answered.
-ghost use Rattle.std.specs.Prelude.{◌≡◌, ◌≢◌, ◌∷◌, ◌++◌, ℕ, List, [], IfErr, OnErr, OnOk};
-ghost use Rattle.jq_devices.specs.Watched.{HasFailed, device_of, failures_of};
+ghost use Rattle.std.specs.Prelude.{◌≡◌, ◌≢◌, ◌∷◌, ℕ, List, [], IfErr, OnErr, OnOk};
+ghost use Rattle.jq_devices.specs.Watched.{HasFailed, failures_of};
 ghost use Rattle.jq_devices.specs.declared.faults.StreamFault.TheVariants.{Read as ReadFault, Write as WriteFault};
-ghost use Rattle.jq_script.specs.Serving.{Answers, AnswersFirst, IsOnePass, IsServed, IsStopped, point_of, progress, serving};
-ghost use Rattle.jq_script.specs.private.Lines.{AreLines, AreLinesFirst, HasNoNewline, HasRead, last_line};
+ghost use Rattle.jq_script.specs.Serving.{Answers, AnswersFirst, IsOnePass, IsServed, IsStopped, serving_of};
+ghost use Rattle.jq_script.specs.private.Lines.{HasRead, last_line};
+ghost use Rattle.jq_script.specs.private.Pieces.{AnswersBytes, AnswersBytesFirst, progress_of};
 
 use crate::host::Host;
 use crate::instructions::carry_out;
@@ -29,11 +30,11 @@ pub fn serve<R: Read, W: Write>(
     output: &mut Watched<W>,
 ) -> Result<(), StreamFault>
     ensures served { OnOk result (IsServed follow
-        (serving (R.remaining (device_of input.old)) (W.contents (device_of output.old)) (point_of host.old)) (serving (R.remaining (device_of input.new)) (W.contents (device_of output.new)) (point_of host.new))) }
+        (serving_of R.remaining W.contents input.old output.old host.old) (serving_of R.remaining W.contents input.new output.new host.new)) }
     ensures stopped { IfErr result (λ fault. IsStopped follow fault
-        (serving (R.remaining (device_of input.old)) (W.contents (device_of output.old)) (point_of host.old)) (serving (R.remaining (device_of input.new)) (W.contents (device_of output.new)) (point_of host.new))) }
+        (serving_of R.remaining W.contents input.old output.old host.old) (serving_of R.remaining W.contents input.new output.new host.new)) }
     ensures one_pass { OnErr result (IsOnePass follow
-        (serving (R.remaining (device_of input.old)) (W.contents (device_of output.old)) (point_of host.old)) (serving (R.remaining (device_of input.new)) (W.contents (device_of output.new)) (point_of host.new))) }
+        (serving_of R.remaining W.contents input.old output.old host.old) (serving_of R.remaining W.contents input.new output.new host.new)) }
     ensures read_failed { IfErr result (λ fault. fault ≡ ReadFault → HasFailed (failures_of input.old) (failures_of input.new)) }
     ensures write_failed { IfErr result (λ fault. fault ≡ WriteFault → HasFailed (failures_of output.old) (failures_of output.new)) }
 {
@@ -57,12 +58,10 @@ fn serve_bytes<W: Write>(
     host: &mut Host,
     output: &mut Watched<W>,
 ) -> Result<(), StreamFault>
-    ensures ok { OnOk result ((begun : List ℕ) → HasNoNewline begun → HasRead line.old begun
-        → (whole : List (List ℕ)) × (last : List ℕ) × AreLines (begun ++ bytes.now) whole last × HasRead line.new last
-        × Answers follow whole (progress (W.contents (device_of output.old)) (point_of host.old)) (progress (W.contents (device_of output.new)) (point_of host.new))) }
-    ensures err { OnErr result ((begun : List ℕ) → HasNoNewline begun → HasRead line.old begun
-        → (served : List (List ℕ)) × AreLinesFirst (begun ++ bytes.now) served
-        × AnswersFirst follow served (progress (W.contents (device_of output.old)) (point_of host.old)) (progress (W.contents (device_of output.new)) (point_of host.new))) }
+    ensures ok { OnOk result (AnswersBytes follow bytes.now line.old line.new
+        (progress_of W.contents output.old host.old) (progress_of W.contents output.new host.new)) }
+    ensures err { OnErr result (AnswersBytesFirst follow bytes.now line.old
+        (progress_of W.contents output.old host.old) (progress_of W.contents output.new host.new)) }
     ensures unfailed { OnOk result (failures_of output.new ≡ failures_of output.old) }
     ensures failed { IfErr result (λ fault. fault ≡ WriteFault → HasFailed (failures_of output.old) (failures_of output.new)) }
     ensures fault { IfErr result (λ fault. fault ≢ ReadFault) }
@@ -87,9 +86,9 @@ fn serve_last<W: Write>(
     output: &mut Watched<W>,
 ) -> Result<(), StreamFault>
     ensures ok { OnOk result ((last : List ℕ) → HasRead line.now last
-        → Answers follow (last_line last) (progress (W.contents (device_of output.old)) (point_of host.old)) (progress (W.contents (device_of output.new)) (point_of host.new))) }
+        → Answers follow (last_line last) (progress_of W.contents output.old host.old) (progress_of W.contents output.new host.new)) }
     ensures err { OnErr result ((last : List ℕ) → HasRead line.now last
-        → AnswersFirst follow (last_line last) (progress (W.contents (device_of output.old)) (point_of host.old)) (progress (W.contents (device_of output.new)) (point_of host.new))) }
+        → AnswersFirst follow (last_line last) (progress_of W.contents output.old host.old) (progress_of W.contents output.new host.new)) }
     ensures unfailed { OnOk result (failures_of output.new ≡ failures_of output.old) }
     ensures failed { IfErr result (λ fault. fault ≡ WriteFault → HasFailed (failures_of output.old) (failures_of output.new)) }
     ensures fault { IfErr result (λ fault. fault ≢ ReadFault) }
@@ -109,9 +108,9 @@ fn serve_line<W: Write>(
     output: &mut Watched<W>,
 ) -> Result<(), StreamFault>
     ensures ok { OnOk result ((l : List ℕ) → HasRead line.now l
-        → Answers follow (l ∷ []) (progress (W.contents (device_of output.old)) (point_of host.old)) (progress (W.contents (device_of output.new)) (point_of host.new))) }
+        → Answers follow (l ∷ []) (progress_of W.contents output.old host.old) (progress_of W.contents output.new host.new)) }
     ensures err { OnErr result ((l : List ℕ) → HasRead line.now l
-        → AnswersFirst follow (l ∷ []) (progress (W.contents (device_of output.old)) (point_of host.old)) (progress (W.contents (device_of output.new)) (point_of host.new))) }
+        → AnswersFirst follow (l ∷ []) (progress_of W.contents output.old host.old) (progress_of W.contents output.new host.new)) }
     ensures unfailed { OnOk result (failures_of output.new ≡ failures_of output.old) }
     ensures failed { IfErr result (λ fault. fault ≡ WriteFault → HasFailed (failures_of output.old) (failures_of output.new)) }
     ensures fault { IfErr result (λ fault. fault ≢ ReadFault) }

@@ -4,3 +4,4 @@ pub mod Writing
 pub mod Parts
 pub mod Kept
 pub mod Plans
+pub mod Runs

@@ -5,8 +5,9 @@ ghost use Rattle.jq_pages.specs.Edits.{most_inputs};
 ghost use Rattle.jq_pages.specs.Folds.{Rises};
 ghost use Rattle.jq_starts.specs.Starts.{starts_in};
 ghost use Rattle.jq_filters.specs.Filters.{filter_job, filter_mode};
-ghost use Rattle.jq_filters.specs.Present.{run_count, values_outcome};
+ghost use Rattle.jq_filters.specs.Present.{values_outcome};
 ghost use Rattle.jq_session.specs.Splices.{ReplacesAll};
+ghost use Rattle.jq_session.specs.private.Runs.{runs_over};
 
 use crate::listing::joined;
 use crate::refusals::{NotStarted, Refusal};
@@ -42,7 +43,7 @@ impl WholeSession {
     ghost use Rattle.jq_session.specs.Sessions.{IsMoveRefusal, IsRefusal, IsStartRefusal, whole_state};
     ghost use Rattle.jq_session.specs.Splices.{Follows, FollowsMove};
     ghost use Rattle.jq_session.specs.Starts.{IsMoveStarted, IsStarted};
-    ghost use Rattle.jq_session.specs.States.{State, after, after_move, outcome, over};
+    ghost use Rattle.jq_session.specs.States.{after, after_move, outcome, over};
 
     /// Makes all runs on these inputs.
     pub(crate) fn start(
@@ -55,8 +56,8 @@ impl WholeSession {
         ensures filter { IfOk result (λ s. s.filter ≡ filter) }
         ensures inputs { IfOk result (λ s. s.inputs ≡ inputs) }
         ensures refused { IfErr result (λ n. IsStartRefusal n.refusal (length inputs.items)) }
-        ensures started { IfOk result (λ s. Rises (starts_in starts) (starts_in s.starts) (run_count (filter_mode filter) (filter_job filter) (map view inputs.items))) }
-        ensures at_most { IfErr result (λ n. Rises (starts_in starts) (starts_in n.starts) (run_count (filter_mode filter) (filter_job filter) (map view inputs.items))) }
+        ensures started { IfOk result (λ s. Rises (starts_in starts) (starts_in s.starts) (runs_over filter (map view inputs.items))) }
+        ensures at_most { IfErr result (λ n. Rises (starts_in starts) (starts_in n.starts) (runs_over filter (map view inputs.items))) }
     {
         let mut starts = starts;
         let settings = filter.settings();
@@ -167,7 +168,7 @@ impl WholeSession {
         ensures follow { IfOk result (λ follow. (edit : Edit) → Follows follow edit (whole_state self.old) (whole_state self.new)) }
         ensures unchanged { OnErr result (whole_state self.new ≡ whole_state self.old) }
         ensures runs { IfOk result (λ follow. starts_in self.new.starts ≡ starts_in self.old.starts + follow.runs) }
-        ensures rises { Rises (starts_in self.old.starts) (starts_in self.new.starts) (run_count (filter_mode self.old.filter) (filter_job self.old.filter) (map view inputs.items)) }
+        ensures rises { Rises (starts_in self.old.starts) (starts_in self.new.starts) (runs_over self.old.filter (map view inputs.items)) }
     {
         let (written, runs) = run_over(self.alloc, &self.filter, &mut self.starts, &inputs)?;
         let follow = answer(self.alloc, &self.written, &written, runs)?;
@@ -188,8 +189,7 @@ impl WholeSession {
         ensures second { IfOk result (λ r. (edit : Edit) → Follows r.1 edit (over (whole_state self.old) (map view others.now)) (whole_state self.new)) }
         ensures unchanged { OnErr result (whole_state self.new ≡ whole_state self.old) }
         ensures runs { IfOk result (λ r. starts_in self.new.starts ≡ starts_in self.old.starts + (r.0.runs + r.1.runs)) }
-        ensures rises { Rises (starts_in self.old.starts) (starts_in self.new.starts)
-            (run_count (filter_mode self.old.filter) (filter_job self.old.filter) (map view others.now) + run_count (filter_mode self.old.filter) (filter_job self.old.filter) (map view inputs.items)) }
+        ensures rises { Rises (starts_in self.old.starts) (starts_in self.new.starts) (runs_over self.old.filter (map view others.now) + runs_over self.old.filter (map view inputs.items)) }
     {
         let (between, first_runs) = run_over(self.alloc, &self.filter, &mut self.starts, others)?;
         let (written, runs) = run_over(self.alloc, &self.filter, &mut self.starts, &inputs)?;
@@ -289,7 +289,7 @@ fn run_over(
     ensures errors { IfOk result (λ r. r.0.errors.items ≡ (values_outcome (filter_mode filter.now) (filter_job filter.now) (map view inputs.now)).errors) }
     ensures status { IfOk result (λ r. r.0.status ≡ (values_outcome (filter_mode filter.now) (filter_job filter.now) (map view inputs.now)).status) }
     ensures runs { IfOk result (λ r. starts_in starts.new ≡ starts_in starts.old + r.1) }
-    ensures rises { Rises (starts_in starts.old) (starts_in starts.new) (run_count (filter_mode filter.now) (filter_job filter.now) (map view inputs.now)) }
+    ensures rises { Rises (starts_in starts.old) (starts_in starts.new) (runs_over filter.now (map view inputs.now)) }
 {
     let before = starts.count();
     let settings = filter.settings();

@@ -1,5 +1,5 @@
 // Pieces are written one after the other through a buffer of fixed size.
-ghost use Rattle.std.specs.Prelude.{◌≡◌, ◌++◌, [], map, IfOk, IsFalse, IsTrue, OnErr, OnOk};
+ghost use Rattle.std.specs.Prelude.{◌≡◌, ◌++◌, [], IfOk, IsFalse, IsTrue, OnErr, OnOk};
 ghost use Rattle.std.specs.List.{flat_map};
 ghost use Rattle.std.specs.Io.KnownBytes.{Appends};
 ghost use Rattle.jq_devices.specs.Watched.{HasFailed, device_of, failures_of};
@@ -8,7 +8,7 @@ ghost use Rattle.jq_pages.specs.Contents.{folded_of};
 ghost use Rattle.jq_pages.specs.Folds.{all};
 ghost use Rattle.jq_pages.specs.Pieces.{piece_view};
 ghost use Rattle.jq_session.specs.private.Writing.{IsPassed};
-ghost use Rattle.jq_session.specs.private.Parts.{part_in};
+ghost use Rattle.jq_session.specs.private.Parts.{part_in, parts_of};
 
 use arrayvec::ArrayVec;
 use jq_devices::{StreamFault, Watched, Write, write};
@@ -88,8 +88,8 @@ impl Gathered {
         part: Part,
         pieces: &[Piece],
     ) -> Result<(), StreamFault>
-        ensures ok { OnOk result (IsPassed self.old.bytes.items self.new.bytes.items (W.contents (device_of writer.old)) (W.contents (device_of writer.new)) (flat_map (part_in part) (map piece_view pieces.now))) }
-        ensures err { OnErr result (AppendsFirst (W.contents (device_of writer.old)) (W.contents (device_of writer.new)) (self.old.bytes.items ++ flat_map (part_in part) (map piece_view pieces.now))) }
+        ensures ok { OnOk result (IsPassed self.old.bytes.items self.new.bytes.items (W.contents (device_of writer.old)) (W.contents (device_of writer.new)) (parts_of part pieces.now)) }
+        ensures err { OnErr result (AppendsFirst (W.contents (device_of writer.old)) (W.contents (device_of writer.new)) (self.old.bytes.items ++ parts_of part pieces.now)) }
         ensures unfailed { OnOk result (failures_of writer.new ≡ failures_of writer.old) }
         ensures failed { OnErr result (HasFailed (failures_of writer.old) (failures_of writer.new)) }
     {

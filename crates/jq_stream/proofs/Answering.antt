@@ -8,17 +8,21 @@ use Rattle.std.proofs.lemmas.Grind.{flat_map-append}
 use Rattle.std.proofs.lemmas.List.{map-append}
 use Rattle.std.proofs.lemmas.List.Folds.{list_any-append}
 use Rattle.jv_meaning.specs.Value.{Value}
-use Rattle.jv_text.specs.Cutting.{HasGiven}
 use Rattle.jv_text.specs.declared.cutting.Cutter.{Cutter}
 use Rattle.jv_text.specs.declared.printing.Style.{Style}
 use Rattle.jq_meaning.specs.Runs.{Run, Item, none}
+use Rattle.jq_devices.proofs.shared.Writing.{first_whole}
 use Rattle.jq_devices.specs.Writing.{AppendsFirst}
 use Rattle.jq_filters.specs.Outcomes.{Job, Last, runs_printed, runs_reported, any_failure, last_output, first_halt, end_status}
 use Rattle.jq_stream.specs.Streams.{Outputs}
 use Rattle.jq_filters.specs.Pieces.{last_of}
+use Rattle.jq_filters.specs.Runner.{job_of}
+use Rattle.jq_filters.specs.declared.runner.Runner.{Runner}
+use Rattle.jq_filters.specs.declared.settings.Settings.{Settings}
 use Rattle.jq_filters.specs.private.Made.{EndsInHalt, MayBeMade}
-use Rattle.jq_stream.specs.private.Answering.{IsAnswered, IsAnsweredFirst, IsPrinted, IsPrintedFirst, HasEmptyBuffers, IsFresh, last_after, last_after_items, runs_on}
-use Rattle.jq_stream.specs.private.Cutting.{IsReached, IsReadied}
+use Rattle.jq_stream.specs.private.Answering.{IsAnswered, IsAnsweredFirst, IsPrinted, IsPrintedFirst, HasEmptyBuffers, IsFresh, IsWritten, IsWrittenFirst, IsEmptied, last_after, last_after_items, runs_on}
+use Rattle.jq_stream.specs.private.Cutting.{IsReached}
+use Rattle.jq_stream.specs.private.Ready.{AnswersUpTo, AnswersFirst}
 use Rattle.jq_stream.specs.private.Sending.{IsSent, IsSentFirst}
 use Rattle.jq_stream.specs.declared.answers.OutputBuffers.{OutputBuffers}
 use Rattle.jq_stream.specs.declared.answers.Reached.{Reached}
@@ -123,17 +127,17 @@ stopped_before style rs a o = record { output = first_sent _ _ _ _ [] (runs_prin
 buffer_written : (w v : List ℕ) (r s : Option (List ℕ)) → Appends r s w → v ≡ [] → IsSent w v r s []
 buffer_written w v r s written none = record { front = w; parts = ap (λ l. w ++ l) (sym none); written = written }
 
-pub buffers_written : (style : Style) (rs : List (Run Item)) (a b c : OutputBuffers) (o p q : Outputs) → IsAnswered style rs a b o p → Appends p.output q.output b.printed.items
-    → Appends p.errors q.errors b.reported.items → HasEmptyBuffers c → c.failed ≡ b.failed → c.last ≡ b.last → IsAnswered style rs a c o q
-buffers_written style rs a b c o p q g printed reported empty failed last = record {
+pub buffers_written : (style : Style) (rs : List (Run Item)) (a b c : OutputBuffers) (o p q : Outputs) → IsAnswered style rs a b o p → IsWritten b p q → IsEmptied b c
+    → IsAnswered style rs a c o q
+buffers_written style rs a b c o p q g flushed emptied = record {
   output =
       subst (IsSentTo a c o q) (append-nil (runs_printed style rs))
-      (sent_more _ _ _ _ _ _ _ _ g.output (buffer_written b.printed.items c.printed.items p.output q.output printed empty.printed));
+      (sent_more _ _ _ _ _ _ _ _ g.output (buffer_written b.printed.items c.printed.items p.output q.output flushed.output emptied.empty.printed));
   errors =
       subst (IsReportedTo a c o q) (append-nil (runs_reported rs))
-      (sent_more _ _ _ _ _ _ _ _ g.errors (buffer_written b.reported.items c.reported.items p.errors q.errors reported empty.reported));
-  failed = failed ∙ g.failed;
-  last = ap last_of last ∙ g.last;
+      (sent_more _ _ _ _ _ _ _ _ g.errors (buffer_written b.reported.items c.reported.items p.errors q.errors flushed.errors emptied.empty.reported));
+  failed = emptied.failed ∙ g.failed;
+  last = ap last_of emptied.last ∙ g.last;
 }
 
 -- the buffers were empty before, and are empty now
@@ -148,10 +152,13 @@ whole_written style rs a b o p before after g = (
 abbrev pub FirstWritten : Style → List (Run Item) → Outputs → Outputs → Type 0
 FirstWritten style rs o p = AppendsFirst o.output p.output (runs_printed style rs) × AppendsFirst o.errors p.errors (runs_reported rs)
 
-pub first_buffers_written : (style : Style) (rs : List (Run Item)) (a b : OutputBuffers) (o p q : Outputs) → HasEmptyBuffers a → IsAnsweredFirst style rs a b o p → AppendsFirst p.output q.output b.printed.items
-    → AppendsFirst p.errors q.errors b.reported.items → FirstWritten style rs o q
-first_buffers_written style rs a b o p q before g printed reported =
-    (first_written _ _ _ _ _ (runs_printed style rs) before.printed g.output printed, first_written _ _ _ _ _ (runs_reported rs) before.reported g.errors reported)
+pub first_buffers_written : (style : Style) (rs : List (Run Item)) (a b : OutputBuffers) (o p q : Outputs) → HasEmptyBuffers a → IsAnsweredFirst style rs a b o p → IsWrittenFirst b p q
+    → FirstWritten style rs o q
+first_buffers_written style rs a b o p q before g first =
+    (first_written _ _ _ _ _ (runs_printed style rs) before.printed g.output first.output, first_written _ _ _ _ _ (runs_reported rs) before.reported g.errors first.errors)
+
+pub first_of_written : (b : OutputBuffers) (p q : Outputs) → IsWritten b p q → IsWrittenFirst b p q
+first_of_written b p q written = record { output = first_whole _ _ _ written.output; errors = first_whole _ _ _ written.errors }
 
 -- ---- the status
 
@@ -189,16 +196,10 @@ one_halts job v halt status e f = record { made = one_made (job.run none v); hal
 -- ---- values that are complete so far
 
 -- all values that were complete were answered, or the first of them
-abbrev pub AnsweredFirst : Job → Cutter → OutputBuffers → OutputBuffers → Outputs → Outputs → List Value → List ℕ → Type 0
-AnsweredFirst job cutter a b o p given fed =
-    (values : List Value) × HasGiven cutter (given ++ values) fed × MayBeMade (runs_on job values) × IsAnsweredFirst job.style (runs_on job values) a b o p
-
-pub either_answered : {E : Type 0} (r : Result Reached E) (job : Job) (before after : Cutter) (a b : OutputBuffers) (o p : Outputs)
-    → IfOk r (λ reached. (given : List Value) (fed : List ℕ) → HasGiven before given fed
-    → (values : List Value) × IsReadied after reached (runs_on job values) given values fed × IsAnswered job.style (runs_on job values) a b o p)
-    → OnErr r ((given : List Value) (fed : List ℕ) → HasGiven before given fed → AnsweredFirst job after a b o p given fed)
-    → (given : List Value) (fed : List ℕ) → HasGiven before given fed → AnsweredFirst job after a b o p given fed
-either_answered (Ok reached) job before after a b o p ok err given fed has =
+pub either_answered : {E : Type 0} (r : Result Reached E) (s : Settings) (runner : Runner) (before after : Cutter) (a b : OutputBuffers) (o p : Outputs)
+    → IfOk r (λ up_to. AnswersUpTo up_to s runner before after a b o p) → OnErr r (AnswersFirst s runner before after a b o p) → AnswersFirst s runner before after a b o p
+either_answered (Ok reached) s runner before after a b o p ok err given fed has =
     let ready = ok given fed has in
-    (ready.0, ready.1.has_given, runs_made reached (runs_on job ready.0) after (given ++ ready.0) fed ready.1.up_to, first_of_answered job.style (runs_on job ready.0) a b o p ready.2)
-either_answered (Err e) job before after a b o p ok err given fed has = err given fed has
+    let runs = runs_on (job_of s runner) ready.0 in
+    (ready.0, ready.1.has_given, runs_made reached runs after (given ++ ready.0) fed ready.1.up_to, first_of_answered s.style runs a b o p ready.2)
+either_answered (Err e) s runner before after a b o p ok err given fed has = err given fed has

@@ -1,5 +1,5 @@
 -- The faults of calls that come one after the other, and the failures of their devices.
-use Rattle.std.proofs.Common.{◌≡◌, ℕ, inl, inr, sym, ap, subst, Result, Ok, Err, IfErr, OnOk}
+use Rattle.std.proofs.Common.{◌≡◌, ◌≢◌, ℕ, inl, inr, sym, ap, subst, Result, Ok, Err, IfErr, OnOk}
 use Rattle.jv_meaning.proofs.shared.Results.{if_err_map}
 use Rattle.jq_devices.proofs.shared.Failures.{failed_after, failed_more}
 use Rattle.jq_devices.specs.Watched.{HasFailed}
@@ -27,7 +27,7 @@ outputs_failed_more a b c failed kept = elim failed [
 
 -- a fault, and then a write fault
 pub then_write : (f e : StreamFault) (a b c : OutputFailures) → IsWriteBlamed f a b → NoneFell b c → e ≡ Write → IsWriteBlamed e b c → IsWriteBlamed e a c
-then_write Read e a b c same kept is blamed = after_none e a b c same blamed
+then_write Read e a b c never kept is blamed = absurd never
 then_write Write e a b c failed kept is blamed = write_blamed e a c is (outputs_failed_more a b c failed kept)
 then_write NoMemory e a b c same kept is blamed = after_none e a b c same blamed
 
@@ -37,9 +37,15 @@ pub after_result : {A : Type 0} (r : Result A StreamFault) (e : StreamFault) (a 
 after_result (Ok x) e a b c same blamed kept is h = after_none e a b c same h
 after_result (Err f) e a b c same blamed kept is h = then_write f e a b c blamed kept is h
 
+-- it is no read fault
+pub never_read : (f : StreamFault) (a b : OutputFailures) → IsWriteBlamed f a b → f ≢ Read
+never_read Read a b blamed is = absurd blamed
+never_read Write a b blamed is = cc
+never_read NoMemory a b blamed is = cc
+
 -- what a fault says about both outputs, for a caller
 pub write_failed : (f : StreamFault) (a b : OutputFailures) → IsWriteBlamed f a b → f ≡ Write → AnOutputHasFailed a b
-write_failed Read a b blamed is = cc
+write_failed Read a b blamed is = absurd blamed
 write_failed Write a b blamed is = blamed
 write_failed NoMemory a b blamed is = cc
 

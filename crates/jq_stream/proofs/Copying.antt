@@ -13,7 +13,7 @@ use Rattle.jq_filters.specs.Present.{run_count}
 use Rattle.jq_stream.specs.Streams.{Outputs}
 use Rattle.jq_filters.specs.Pieces.{last_of}
 use Rattle.jq_filters.specs.private.Made.{EndsInHalt}
-use Rattle.jq_stream.specs.private.Answering.{HasEmptyBuffers, IsAnswered, IsFresh, runs_on}
+use Rattle.jq_stream.specs.private.Answering.{HasEmptyBuffers, IsAnswered, IsEmptied, IsFresh, IsWritten, runs_on}
 use Rattle.jq_stream.specs.private.Valued.{IsValuesRun}
 use Rattle.jq_stream.specs.declared.answers.OutputBuffers.{OutputBuffers}
 use Rattle.jq_stream.proofs.Answering.{buffers_written, halted_more, one_halts, runs_both, status_of_runs, unhalted_more, values_more, whole_written}
@@ -113,13 +113,13 @@ next_run_made job values i copy value below item same no_halt =
 
 -- the runs that are made were answered, and what they write was written
 pub values_ran : (job : Job) (values : List Value) (a b c : OutputBuffers) (o p q : Outputs) (halt : Option ℕ) (status answer runs : ℕ) → HasEmptyBuffers a → IsFresh a
-    → IsAnswered job.style (up_to_halt (runs_on job values)) a b o p → halt ≡ first_halt (runs_on job values) → runs ≡ run_count on_each job values → Appends p.output q.output b.printed.items
-    → Appends p.errors q.errors b.reported.items → HasEmptyBuffers c → c.failed ≡ b.failed → c.last ≡ b.last → status ≡ end_status job.exit c.failed (last_of c.last)
+    → IsAnswered job.style (up_to_halt (runs_on job values)) a b o p → halt ≡ first_halt (runs_on job values) → runs ≡ run_count on_each job values → IsWritten b p q
+    → IsEmptied b c → status ≡ end_status job.exit c.failed (last_of c.last)
     → answer ≡ unwrap_or halt status → IsValuesRun on_each job values o q (answer, runs)
-values_ran job values a b c o p q halt status answer runs empty fresh answered halts count printed reported after failed last is by =
+values_ran job values a b c o p q halt status answer runs empty fresh answered halts count flushed emptied is by =
     let rs = up_to_halt (runs_on job values) in
-    let all = buffers_written job.style rs a b c o p q answered printed reported after failed last in
-    let written = whole_written job.style rs a c o q empty after all in
+    let all = buffers_written job.style rs a b c o p q answered flushed emptied in
+    let written = whole_written job.style rs a c o q empty emptied.empty all in
     let same : halt ≡ first_halt rs = halts ∙ sym (same_halt (runs_on job values)) in
     let reports : runs_reported rs ++ unless_halted (first_halt rs) [] ≡ runs_reported rs = ap (λ l. runs_reported rs ++ l) (nothing_more (first_halt rs)) ∙ append-nil (runs_reported rs) in
     record {

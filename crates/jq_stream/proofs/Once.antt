@@ -20,7 +20,7 @@ use Rattle.jq_filters.specs.Running.{run_on}
 use Rattle.jq_stream.specs.Streams.{Outputs, Streams, Writes, IsStreamRun, streams}
 use Rattle.jq_stream.specs.Stopped.{WritesFirst, whole_texts, IsWriteStopped}
 use Rattle.jq_filters.specs.Pieces.{last_of}
-use Rattle.jq_stream.specs.private.Answering.{IsAnswered, IsAnsweredFirst, HasEmptyBuffers, IsFresh}
+use Rattle.jq_stream.specs.private.Answering.{IsAnswered, IsAnsweredFirst, IsRestAnswered, IsRestAnsweredFirst, HasEmptyBuffers, IsFresh, IsWritten, IsWrittenFirst, IsEmptied}
 use Rattle.jq_stream.specs.Texts.{EndsAs}
 use Rattle.jq_stream.specs.private.Gathering.{IsGathered, stop_ending}
 use Rattle.jq_filters.specs.Present.{present, run_count}
@@ -45,11 +45,10 @@ once_made : (s : Settings) (r : Run Item) (halt : Option ℕ) → halt ≡ first
 once_made s r halt e = outcome_made s.style s.exit (r ∷ []) [] (λ status. status) halt (r ∷ []) (one_made r) (sym e)
 
 pub once_ran : (s : Settings) (r : Run Item) (a b c : OutputBuffers) (o p q : Outputs) (halt : Option ℕ) (status answer : ℕ) → HasEmptyBuffers a → IsFresh a → IsAnswered s.style (r ∷ []) a b o p
-    → Appends p.output q.output b.printed.items → Appends p.errors q.errors b.reported.items → HasEmptyBuffers c → c.failed ≡ b.failed → c.last ≡ b.last
-    → halt ≡ first_halt (r ∷ []) → status ≡ end_status s.exit c.failed (last_of c.last) → answer ≡ unwrap_or halt status → IsRunOnce s r o q answer
-once_ran s r a b c o p q halt status answer empty fresh g printed reported after failed last halts is answered =
-    let all = buffers_written s.style (r ∷ []) a b c o p q g printed reported after failed last in
-    let written = whole_written s.style (r ∷ []) a c o q empty after all in
+    → IsWritten b p q → IsEmptied b c → halt ≡ first_halt (r ∷ []) → status ≡ end_status s.exit c.failed (last_of c.last) → answer ≡ unwrap_or halt status → IsRunOnce s r answer o q
+once_ran s r a b c o p q halt status answer empty fresh g flushed emptied halts is answered =
+    let all = buffers_written s.style (r ∷ []) a b c o p q g flushed emptied in
+    let written = whole_written s.style (r ∷ []) a c o q empty emptied.empty all in
     let made = once_made s r halt halts in
     let reports : runs_reported (r ∷ []) ++ unless_halted halt [] ≡ runs_reported (r ∷ []) = ap (λ l. runs_reported (r ∷ []) ++ l) (nothing_more halt) ∙ append-nil (runs_reported (r ∷ [])) in
     record {
@@ -57,10 +56,10 @@ once_ran s r a b c o p q halt status answer empty fresh g printed reported after
       status = answered ∙ ap (unwrap_or halt) (status_of_runs s.exit s.style (r ∷ []) a c o q status fresh all is) ∙ ap (λ outcome. outcome.status) (sym made);
     }
 
-pub once_stopped : (s : Settings) (r : Run Item) (a b : OutputBuffers) (o p q : Outputs) → HasEmptyBuffers a → IsAnsweredFirst s.style (r ∷ []) a b o p → AppendsFirst p.output q.output b.printed.items
-    → AppendsFirst p.errors q.errors b.reported.items → WritesFirst (run_outcome s r) o q
-once_stopped s r a b o p q empty g printed reported =
-    let first = first_buffers_written s.style (r ∷ []) a b o p q empty g printed reported in
+pub once_stopped : (s : Settings) (r : Run Item) (a b : OutputBuffers) (o p q : Outputs) → HasEmptyBuffers a → IsAnsweredFirst s.style (r ∷ []) a b o p → IsWrittenFirst b p q
+    → WritesFirst (run_outcome s r) o q
+once_stopped s r a b o p q empty g flushed =
+    let first = first_buffers_written s.style (r ∷ []) a b o p q empty g flushed in
     let halt = first_halt (r ∷ []) in
     subst (WritesFirstTo o q) (sym (once_made s r halt refl))
     (record { output = first.0; errors = first_longer o.errors q.errors (runs_reported (r ∷ [])) (unless_halted halt []) first.1 })
@@ -70,17 +69,16 @@ nothing_written outcome o = record { output = first_nothing o.output _; errors =
 
 -- the run was answered, or the first of its outputs
 pub either_run : {A E : Type 0} (result : Result A E) (e : Engine) (style : Style) (a b : OutputBuffers) (o p : Outputs)
-    → OnOk result ((r : Run Item) → IsRest e r → IsAnswered style (r ∷ []) a b o p) → OnErr result ((r : Run Item) → IsRest e r → IsAnsweredFirst style (r ∷ []) a b o p)
-    → (r : Run Item) → IsRest e r → IsAnsweredFirst style (r ∷ []) a b o p
+    → OnOk result (IsRestAnswered style e a b o p) → OnErr result (IsRestAnsweredFirst style e a b o p) → IsRestAnsweredFirst style e a b o p
 either_run (Ok halt) e style a b o p ok err r is = first_of_answered style (r ∷ []) a b o p (ok r is)
 either_run (Err f) e style a b o p ok err r is = err r is
 
 -- ---- on null, without reading
 
 pub null_unread : (s : Settings) (r : Runner) (inputs : Run Value) (mode : Mode) (old new : Streams) (answer : ℕ) → mode ≡ on_null false → inputs ≡ none
-    → IsRunOnce s (run_on r inputs null) old.outputs new.outputs answer → IsStreamRun mode (job_of s r) old new answer
+    → IsRunOnce s (run_on r inputs null) answer old.outputs new.outputs → IsStreamRun mode (job_of s r) old new answer
 null_unread s r inputs mode old new answer e f ran =
-    let alone : IsRunOnce s (run_on r none null) old.outputs new.outputs answer = subst (λ i. IsRunOnce s (run_on r i null) old.outputs new.outputs answer) f ran in
+    let alone : IsRunOnce s (run_on r none null) answer old.outputs new.outputs = subst (λ i. IsRunOnce s (run_on r i null) answer old.outputs new.outputs) f ran in
     subst (λ m. IsStreamRun m (job_of s r) old new answer) (sym e) (known old.remaining, whole_known old.remaining, alone.written, alone.status)
 
 pub null_unread_stopped : (s : Settings) (r : Runner) (inputs : Run Value) (mode : Mode) (old new : Streams) → mode ≡ on_null false → inputs ≡ none

@@ -23,7 +23,7 @@ use Rattle.jq_filters.specs.Pieces.{each_fold, last_in, last_of, no_piece, piece
 use Rattle.jq_filters.specs.Present.{run_count, values_outcome}
 use Rattle.jq_stream.specs.Streams.{Outputs}
 use Rattle.jq_filters.specs.Unhalted.{NeverHalts}
-use Rattle.jq_stream.specs.private.Answering.{HasEmptyBuffers, IsAnswered, IsFresh, last_after}
+use Rattle.jq_stream.specs.private.Answering.{HasEmptyBuffers, IsAnswered, IsEmptied, IsFresh, IsWritten, last_after}
 use Rattle.jq_stream.specs.declared.answers.OutputBuffers.{OutputBuffers}
 use Rattle.jq_stream.proofs.Answering.{buffers_written, whole_written}
 use Rattle.jq_filters.proofs.shared.Halting.{none_halts, nothing_more, one_halt}
@@ -154,12 +154,12 @@ or_false true = refl
 or_false false = refl
 
 pub piece_made : (style : Style) (r : Run Item) (a b c : OutputBuffers) (o p q : Outputs) (w : Piece) → HasEmptyBuffers a → IsFresh a → IsAnswered style (r ∷ []) a b o p
-    → Appends p.output q.output b.printed.items → Appends p.errors q.errors b.reported.items → HasEmptyBuffers c → c.failed ≡ b.failed → c.last ≡ b.last → o.output ≡ Some [] → o.errors ≡ Some []
+    → IsWritten b p q → IsEmptied b c → o.output ≡ Some [] → o.errors ≡ Some []
     → q.output ≡ Some w.out.items → q.errors ≡ Some w.err.items → w.last ≡ c.last → w.failed ≡ c.failed → w.halt ≡ first_halt (r ∷ []) → piece_view w ≡ piece_of style r
 unfolding piece_view
-piece_made style r a b c o p q w empty fresh answered printed reported after failed last old_out old_err new_out new_err same_last same_failed same_halt =
-    let all = buffers_written style (r ∷ []) a b c o p q answered printed reported after failed last in
-    let written = whole_written style (r ∷ []) a c o q empty after all in
+piece_made style r a b c o p q w empty fresh answered flushed emptied old_out old_err new_out new_err same_last same_failed same_halt =
+    let all = buffers_written style (r ∷ []) a b c o p q answered flushed emptied in
+    let written = whole_written style (r ∷ []) a c o q empty emptied.empty all in
     let out : w.out.items ≡ printed_of style r = written_from_none o.output q.output w.out.items (runs_printed style (r ∷ [])) old_out new_out written.0 ∙ append-nil (printed_of style r) in
     let err : w.err.items ≡ ending_report r.ending = written_from_none o.errors q.errors w.err.items (runs_reported (r ∷ [])) old_err new_err written.1 ∙ append-nil (ending_report r.ending) in
     let fails : w.failed ≡ is_failure r.ending = same_failed ∙ all.failed ∙ ap (λ f. f || any_failure (r ∷ [])) fresh.failed ∙ or_false (is_failure r.ending) in

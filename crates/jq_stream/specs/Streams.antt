@@ -27,6 +27,12 @@ streams remaining output errors = record { remaining = remaining; outputs = outp
 abbrev pub streams_of : {R O E : Type 0} → (left : R → Option (List ℕ)) → (printed : O → Option (List ℕ)) → (reported : E → Option (List ℕ)) → Watched R → Watched O → Watched E → Streams
 streams_of left printed reported input output errors = streams (left (device_of input)) (printed (device_of output)) (reported (device_of errors))
 
+-- this relation holds between what a reader and two writers have before a call and after it
+abbrev pub OnStreams : {R O E : Type 0} → (left : R → Option (List ℕ)) → (printed : O → Option (List ℕ)) → (reported : E → Option (List ℕ)) → Watched R → Watched O → Watched E → Watched R → Watched O → Watched E
+    → (relation : (old new : Streams) → Type 0) → Type 0
+OnStreams left printed reported input_old output_old errors_old input_new output_new errors_new relation =
+    relation (streams_of left printed reported input_old output_old errors_old) (streams_of left printed reported input_new output_new errors_new)
+
 -- the bytes of this outcome were written
 pub record Writes (outcome : Outcome) (old new : Outputs) : Type 0 where
   pub output : Appends old.output new.output outcome.output

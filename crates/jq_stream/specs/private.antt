@@ -7,3 +7,6 @@ pub mod Once
 pub mod Valued
 pub mod Blaming
 pub mod Outputs
+pub mod Modes
+pub mod Feeding
+pub mod Ready

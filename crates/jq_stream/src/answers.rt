@@ -1,9 +1,6 @@
 // The outputs of a filter's runs, one after the other.
-ghost use Rattle.std.specs.Prelude.{◌≡◌, ◌≢◌, ◌++◌, ◌∷◌, ◌||◌, List, ℕ, [], true, if◌then◌else◌, IfErr, IfOk, OnOk, OnErr};
-ghost use Rattle.std.specs.Io.KnownBytes.{Appends};
-ghost use Rattle.jv_meaning.specs.Value.{Value};
+ghost use Rattle.std.specs.Prelude.{◌≡◌, ◌≢◌, ◌++◌, ◌∷◌, ◌||◌, [], true, IfErr, IfOk, OnOk, OnErr};
 ghost use Rattle.jv_data.specs.View.{view};
-ghost use Rattle.jv_text.specs.Cutting.{HasGiven, is_finished, fed_count};
 ghost use Rattle.jv_text.specs.Printed.{printed};
 ghost use Rattle.jq_natives.specs.Answers.{is_true};
 ghost use Rattle.jq_meaning.specs.Runs.{Run, Item, Stopped};
@@ -11,16 +8,14 @@ ghost use Rattle.jq_state.specs.Nexts.{stop_of};
 ghost use Rattle.jq_backtracking.specs.Outcomes.{ending_of};
 ghost use Rattle.jq_engine.specs.Engine.{IsRest};
 ghost use Rattle.jq_starts.specs.Starts.{HasStarted};
-ghost use Rattle.jq_devices.specs.Watched.{device_of};
-ghost use Rattle.jq_devices.specs.Writing.{AppendsFirst};
 ghost use Rattle.jq_devices.specs.declared.faults.StreamFault.TheVariants.{Read as ReadFault, Write as WriteFault};
-ghost use Rattle.jq_filters.specs.Outcomes.{runs_printed, runs_reported, error_line, error_prefix, end_status, ending_report, first_halt, halt_status, is_failure, last_by, stop_report};
+ghost use Rattle.jq_filters.specs.Outcomes.{error_line, error_prefix, end_status, ending_report, first_halt, halt_status, is_failure, last_by, stop_report};
 ghost use Rattle.jq_filters.specs.Pieces.{last_of};
 ghost use Rattle.jq_filters.specs.Runner.{job_of};
-ghost use Rattle.jq_stream.specs.private.Outputs.{outputs_of};
+ghost use Rattle.jq_stream.specs.private.Outputs.{OnOutputs};
 ghost use Rattle.jq_stream.specs.Failures.{output_failures};
 ghost use Rattle.jq_stream.specs.private.Blaming.{IsWriteBlamed, NoneFell};
-ghost use Rattle.jq_stream.specs.private.Cutting.{IsCutting, IsReadied};
+ghost use Rattle.jq_stream.specs.private.Cutting.{IsCutting};
 
 use crate::reports::note_input;
 use jq_backtracking::Ending;
@@ -80,8 +75,8 @@ pub(crate) struct OutputBuffers {
 }
 
 impl OutputBuffers {
-    ghost use Rattle.jq_filters.specs.private.Made.{MayBeMade};
-    ghost use Rattle.jq_stream.specs.private.Answering.{IsAnswered, IsAnsweredFirst, IsPrinted, IsPrintedFirst, HasEmptyBuffers, IsFresh, runs_on};
+    ghost use Rattle.jq_stream.specs.private.Answering.{IsAnsweredBy, IsAnsweredFirstBy, IsRestAnswered, IsRestAnsweredFirst, IsPrinted, IsPrintedFirst, IsPiecePrinted, HasEmptyBuffers, IsFresh, IsWritten, IsWrittenFirst, IsEmptied, runs_on};
+    ghost use Rattle.jq_stream.specs.private.Ready.{AnswersUpTo, AnswersFirst, WritesFirstReady, IsFedAlike};
 
     /// No run was made.
     pub(crate) fn new(alloc: Global) -> OutputBuffers
@@ -114,20 +109,14 @@ impl OutputBuffers {
     ) -> Result<Reached, StreamFault>
         requires stream { IsCutting cutter.old }
         requires empty { HasEmptyBuffers self.old }
-        ensures answered { IfOk result (λ reached. (given : List Value) (fed : List ℕ) → HasGiven cutter.old given fed
-            → (values : List Value) × IsReadied cutter.new reached (runs_on (job_of settings runner.now) values) given values fed
-            × IsAnswered settings.style (runs_on (job_of settings runner.now) values) self.old self.new
-            (outputs_of O.contents E.contents output.old errors.old) (outputs_of O.contents E.contents output.new errors.new)) }
+        ensures answered { IfOk result (λ up_to. OnOutputs O.contents E.contents output.old errors.old output.new errors.new
+            (AnswersUpTo up_to settings runner.now cutter.old cutter.new self.old self.new)) }
         ensures unfailed { OnOk result (output_failures output.new errors.new ≡ output_failures output.old errors.old) }
         ensures blamed { IfErr result (λ fault. IsWriteBlamed fault (output_failures output.old errors.old) (output_failures output.new errors.new)) }
-        ensures fault { IfErr result (λ fault. fault ≢ ReadFault) }
-        ensures stopped { OnErr result ((given : List Value) (fed : List ℕ) → HasGiven cutter.old given fed
-            → (values : List Value) × HasGiven cutter.new (given ++ values) fed × MayBeMade (runs_on (job_of settings runner.now) values)
-            × AppendsFirst (O.contents (device_of output.old)) (O.contents (device_of output.new)) (runs_printed settings.style (runs_on (job_of settings runner.now) values))
-            × AppendsFirst (E.contents (device_of errors.old)) (E.contents (device_of errors.new)) (runs_reported (runs_on (job_of settings runner.now) values))) }
+        ensures stopped { OnErr result (OnOutputs O.contents E.contents output.old errors.old output.new errors.new
+            (WritesFirstReady settings runner.now cutter.old cutter.new)) }
         ensures empty { HasEmptyBuffers self.new }
-        ensures finished { is_finished cutter.new ≡ is_finished cutter.old }
-        ensures count { fed_count cutter.new ≡ fed_count cutter.old }
+        ensures unfed { IsFedAlike cutter.old cutter.new }
     {
         let reached = self.answer_all(
             alloc, runner, settings, starts, cutter, file, output, errors,
@@ -149,19 +138,14 @@ impl OutputBuffers {
         errors: &mut Watched<E>,
     ) -> Result<Reached, StreamFault>
         requires { IsCutting cutter.old }
-        ensures answered { IfOk result (λ reached. (given : List Value) (fed : List ℕ) → HasGiven cutter.old given fed
-            → (values : List Value) × IsReadied cutter.new reached (runs_on (job_of settings runner.now) values) given values fed
-            × IsAnswered settings.style (runs_on (job_of settings runner.now) values) self.old self.new
-            (outputs_of O.contents E.contents output.old errors.old) (outputs_of O.contents E.contents output.new errors.new)) }
+        ensures answered { IfOk result (λ up_to. OnOutputs O.contents E.contents output.old errors.old output.new errors.new
+            (AnswersUpTo up_to settings runner.now cutter.old cutter.new self.old self.new)) }
         ensures unfailed { OnOk result (output_failures output.new errors.new ≡ output_failures output.old errors.old) }
         ensures blamed { IfErr result (λ fault. IsWriteBlamed fault (output_failures output.old errors.old) (output_failures output.new errors.new)) }
         ensures fault { IfErr result (λ fault. fault ≢ ReadFault) }
-        ensures stopped { OnErr result ((given : List Value) (fed : List ℕ) → HasGiven cutter.old given fed
-            → (values : List Value) × HasGiven cutter.new (given ++ values) fed × MayBeMade (runs_on (job_of settings runner.now) values)
-            × IsAnsweredFirst settings.style (runs_on (job_of settings runner.now) values) self.old self.new
-            (outputs_of O.contents E.contents output.old errors.old) (outputs_of O.contents E.contents output.new errors.new)) }
-        ensures finished { is_finished cutter.new ≡ is_finished cutter.old }
-        ensures count { fed_count cutter.new ≡ fed_count cutter.old }
+        ensures stopped { OnErr result (OnOutputs O.contents E.contents output.old errors.old output.new errors.new
+            (AnswersFirst settings runner.now cutter.old cutter.new self.old self.new)) }
+        ensures unfed { IsFedAlike cutter.old cutter.new }
     {
         loop {
             match cutter.next() {
@@ -193,10 +177,10 @@ impl OutputBuffers {
         errors: &mut Watched<E>,
     ) -> Result<Option<u8>, StreamFault>
         ensures halt { IfOk result (λ halt. halt ≡ first_halt (runs_on (job_of settings runner.now) (view value ∷ []))) }
-        ensures ok { OnOk result (IsAnswered settings.style (runs_on (job_of settings runner.now) (view value ∷ [])) self.old self.new
-            (outputs_of O.contents E.contents output.old errors.old) (outputs_of O.contents E.contents output.new errors.new)) }
-        ensures err { OnErr result (IsAnsweredFirst settings.style (runs_on (job_of settings runner.now) (view value ∷ [])) self.old self.new
-            (outputs_of O.contents E.contents output.old errors.old) (outputs_of O.contents E.contents output.new errors.new)) }
+        ensures ok { OnOk result (OnOutputs O.contents E.contents output.old errors.old output.new errors.new
+            (IsAnsweredBy settings runner.now (view value ∷ []) self.old self.new)) }
+        ensures err { OnErr result (OnOutputs O.contents E.contents output.old errors.old output.new errors.new
+            (IsAnsweredFirstBy settings runner.now (view value ∷ []) self.old self.new)) }
         ensures unfailed { OnOk result (output_failures output.new errors.new ≡ output_failures output.old errors.old) }
         ensures blamed { IfErr result (λ fault. IsWriteBlamed fault (output_failures output.old errors.old) (output_failures output.new errors.new)) }
         ensures fault { IfErr result (λ fault. fault ≢ ReadFault) }
@@ -217,11 +201,11 @@ impl OutputBuffers {
         output: &mut Watched<O>,
         errors: &mut Watched<E>,
     ) -> Result<(), StreamFault>
-        ensures ok { OnOk result (IsPrinted [] self.old self.new
-            (outputs_of O.contents E.contents output.old errors.old) (outputs_of O.contents E.contents output.new errors.new)) }
+        ensures ok { OnOk result (OnOutputs O.contents E.contents output.old errors.old output.new errors.new
+            (IsPrinted [] self.old self.new)) }
         ensures last { self.new.last ≡ self.old.last }
-        ensures err { OnErr result (IsPrintedFirst [] self.old self.new
-            (outputs_of O.contents E.contents output.old errors.old) (outputs_of O.contents E.contents output.new errors.new)) }
+        ensures err { OnErr result (OnOutputs O.contents E.contents output.old errors.old output.new errors.new
+            (IsPrintedFirst [] self.old self.new)) }
         ensures unfailed { OnOk result (output_failures output.new errors.new ≡ output_failures output.old errors.old) }
         ensures blamed { IfErr result (λ fault. IsWriteBlamed fault (output_failures output.old errors.old) (output_failures output.new errors.new)) }
         ensures fault { IfErr result (λ fault. fault ≢ ReadFault) }
@@ -247,10 +231,10 @@ impl OutputBuffers {
         errors: &mut Watched<E>,
     ) -> Result<Option<u8>, StreamFault>
         ensures halt { IfOk result (λ halt. halt ≡ first_halt (runs_on (job_of settings runner.now) (view value ∷ []))) }
-        ensures ok { OnOk result (IsAnswered settings.style (runs_on (job_of settings runner.now) (view value ∷ [])) self.old self.new
-            (outputs_of O.contents E.contents output.old errors.old) (outputs_of O.contents E.contents output.new errors.new)) }
-        ensures err { OnErr result (IsAnsweredFirst settings.style (runs_on (job_of settings runner.now) (view value ∷ [])) self.old self.new
-            (outputs_of O.contents E.contents output.old errors.old) (outputs_of O.contents E.contents output.new errors.new)) }
+        ensures ok { OnOk result (OnOutputs O.contents E.contents output.old errors.old output.new errors.new
+            (IsAnsweredBy settings runner.now (view value ∷ []) self.old self.new)) }
+        ensures err { OnErr result (OnOutputs O.contents E.contents output.old errors.old output.new errors.new
+            (IsAnsweredFirstBy settings runner.now (view value ∷ []) self.old self.new)) }
         ensures unfailed { OnOk result (output_failures output.new errors.new ≡ output_failures output.old errors.old) }
         ensures blamed { IfErr result (λ fault. IsWriteBlamed fault (output_failures output.old errors.old) (output_failures output.new errors.new)) }
         ensures fault { IfErr result (λ fault. fault ≢ ReadFault) }
@@ -270,10 +254,10 @@ impl OutputBuffers {
         errors: &mut Watched<E>,
     ) -> Result<Option<u8>, StreamFault>
         ensures halt { IfOk result (λ halt. (r : Run Item) → IsRest run.entry r → halt ≡ first_halt (r ∷ [])) }
-        ensures ok { OnOk result ((r : Run Item) → IsRest run.entry r → IsAnswered style (r ∷ []) self.old self.new
-            (outputs_of O.contents E.contents output.old errors.old) (outputs_of O.contents E.contents output.new errors.new)) }
-        ensures err { OnErr result ((r : Run Item) → IsRest run.entry r → IsAnsweredFirst style (r ∷ []) self.old self.new
-            (outputs_of O.contents E.contents output.old errors.old) (outputs_of O.contents E.contents output.new errors.new)) }
+        ensures ok { OnOk result (OnOutputs O.contents E.contents output.old errors.old output.new errors.new
+            (IsRestAnswered style run.entry self.old self.new)) }
+        ensures err { OnErr result (OnOutputs O.contents E.contents output.old errors.old output.new errors.new
+            (IsRestAnsweredFirst style run.entry self.old self.new)) }
         ensures unfailed { OnOk result (output_failures output.new errors.new ≡ output_failures output.old errors.old) }
         ensures blamed { IfErr result (λ fault. IsWriteBlamed fault (output_failures output.old errors.old) (output_failures output.new errors.new)) }
         ensures fault { IfErr result (λ fault. fault ≢ ReadFault) }
@@ -292,10 +276,10 @@ impl OutputBuffers {
         errors: &mut Watched<E>,
     ) -> Result<Option<u8>, StreamFault>
         ensures halt { IfOk result (λ halt. (r : Run Item) → IsRest engine.old r → halt ≡ first_halt (r ∷ [])) }
-        ensures ok { OnOk result ((r : Run Item) → IsRest engine.old r → IsAnswered style (r ∷ []) self.old self.new
-            (outputs_of O.contents E.contents output.old errors.old) (outputs_of O.contents E.contents output.new errors.new)) }
-        ensures err { OnErr result ((r : Run Item) → IsRest engine.old r → IsAnsweredFirst style (r ∷ []) self.old self.new
-            (outputs_of O.contents E.contents output.old errors.old) (outputs_of O.contents E.contents output.new errors.new)) }
+        ensures ok { OnOk result (OnOutputs O.contents E.contents output.old errors.old output.new errors.new
+            (IsRestAnswered style engine.old self.old self.new)) }
+        ensures err { OnErr result (OnOutputs O.contents E.contents output.old errors.old output.new errors.new
+            (IsRestAnsweredFirst style engine.old self.old self.new)) }
         ensures unfailed { OnOk result (output_failures output.new errors.new ≡ output_failures output.old errors.old) }
         ensures blamed { IfErr result (λ fault. IsWriteBlamed fault (output_failures output.old errors.old) (output_failures output.new errors.new)) }
         ensures fault { IfErr result (λ fault. fault ≢ ReadFault) }
@@ -324,11 +308,11 @@ impl OutputBuffers {
         output: &mut Watched<O>,
         errors: &mut Watched<E>,
     ) -> Result<(), StreamFault>
-        ensures ok { OnOk result (IsPrinted (printed style (view value.now)) self.old self.new
-            (outputs_of O.contents E.contents output.old errors.old) (outputs_of O.contents E.contents output.new errors.new)) }
+        ensures ok { OnOk result (OnOutputs O.contents E.contents output.old errors.old output.new errors.new
+            (IsPrinted (printed style (view value.now)) self.old self.new)) }
         ensures last { OnOk result (last_of self.new.last ≡ last_by (is_true (view value.now))) }
-        ensures err { OnErr result (IsPrintedFirst (printed style (view value.now)) self.old self.new
-            (outputs_of O.contents E.contents output.old errors.old) (outputs_of O.contents E.contents output.new errors.new)) }
+        ensures err { OnErr result (OnOutputs O.contents E.contents output.old errors.old output.new errors.new
+            (IsPrintedFirst (printed style (view value.now)) self.old self.new)) }
         ensures unfailed { OnOk result (output_failures output.new errors.new ≡ output_failures output.old errors.old) }
         ensures blamed { IfErr result (λ fault. IsWriteBlamed fault (output_failures output.old errors.old) (output_failures output.new errors.new)) }
         ensures fault { IfErr result (λ fault. fault ≢ ReadFault) }
@@ -354,11 +338,11 @@ impl OutputBuffers {
         output: &mut Watched<O>,
         errors: &mut Watched<E>,
     ) -> Result<(), StreamFault>
-        ensures ok { OnOk result (IsPrinted printer.old self.old self.new
-            (outputs_of O.contents E.contents output.old errors.old) (outputs_of O.contents E.contents output.new errors.new)) }
+        ensures ok { OnOk result (OnOutputs O.contents E.contents output.old errors.old output.new errors.new
+            (IsPrinted printer.old self.old self.new)) }
         ensures last { self.new.last ≡ self.old.last }
-        ensures err { OnErr result (IsPrintedFirst printer.old self.old self.new
-            (outputs_of O.contents E.contents output.old errors.old) (outputs_of O.contents E.contents output.new errors.new)) }
+        ensures err { OnErr result (OnOutputs O.contents E.contents output.old errors.old output.new errors.new
+            (IsPrintedFirst printer.old self.old self.new)) }
         ensures unfailed { OnOk result (output_failures output.new errors.new ≡ output_failures output.old errors.old) }
         ensures blamed { IfErr result (λ fault. IsWriteBlamed fault (output_failures output.old errors.old) (output_failures output.new errors.new)) }
         ensures fault { IfErr result (λ fault. fault ≢ ReadFault) }
@@ -382,11 +366,11 @@ impl OutputBuffers {
         output: &mut Watched<O>,
         errors: &mut Watched<E>,
     ) -> Result<bool, StreamFault>
-        ensures ok { IfOk result (λ more. (piece : List ℕ) × (printer.old ≡ piece ++ (if more then printer.new else [])) × IsPrinted piece self.old self.new
-            (outputs_of O.contents E.contents output.old errors.old) (outputs_of O.contents E.contents output.new errors.new)) }
+        ensures ok { IfOk result (λ more. OnOutputs O.contents E.contents output.old errors.old output.new errors.new
+            (IsPiecePrinted more printer.old printer.new self.old self.new)) }
         ensures last { self.new.last ≡ self.old.last }
-        ensures err { OnErr result (IsPrintedFirst printer.old self.old self.new
-            (outputs_of O.contents E.contents output.old errors.old) (outputs_of O.contents E.contents output.new errors.new)) }
+        ensures err { OnErr result (OnOutputs O.contents E.contents output.old errors.old output.new errors.new
+            (IsPrintedFirst printer.old self.old self.new)) }
         ensures unfailed { OnOk result (output_failures output.new errors.new ≡ output_failures output.old errors.old) }
         ensures blamed { IfErr result (λ fault. IsWriteBlamed fault (output_failures output.old errors.old) (output_failures output.new errors.new)) }
         ensures fault { IfErr result (λ fault. fault ≢ ReadFault) }
@@ -402,11 +386,11 @@ impl OutputBuffers {
         output: &mut Watched<O>,
         errors: &mut Watched<E>,
     ) -> Result<(), StreamFault>
-        ensures ok { OnOk result (IsPrinted [] self.old self.new
-            (outputs_of O.contents E.contents output.old errors.old) (outputs_of O.contents E.contents output.new errors.new)) }
+        ensures ok { OnOk result (OnOutputs O.contents E.contents output.old errors.old output.new errors.new
+            (IsPrinted [] self.old self.new)) }
         ensures last { self.new.last ≡ self.old.last }
-        ensures err { OnErr result (IsPrintedFirst [] self.old self.new
-            (outputs_of O.contents E.contents output.old errors.old) (outputs_of O.contents E.contents output.new errors.new)) }
+        ensures err { OnErr result (OnOutputs O.contents E.contents output.old errors.old output.new errors.new
+            (IsPrintedFirst [] self.old self.new)) }
         ensures unfailed { OnOk result (output_failures output.new errors.new ≡ output_failures output.old errors.old) }
         ensures blamed { IfErr result (λ fault. IsWriteBlamed fault (output_failures output.old errors.old) (output_failures output.new errors.new)) }
         ensures fault { IfErr result (λ fault. fault ≢ ReadFault) }
@@ -473,17 +457,15 @@ impl OutputBuffers {
         output: &mut Watched<O>,
         errors: &mut Watched<E>,
     ) -> Result<(), StreamFault>
-        ensures printed { OnOk result (Appends (O.contents (device_of output.old)) (O.contents (device_of output.new)) self.old.printed.items) }
-        ensures reported { OnOk result (Appends (E.contents (device_of errors.old)) (E.contents (device_of errors.new)) self.old.reported.items) }
+        ensures written { OnOk result (OnOutputs O.contents E.contents output.old errors.old output.new errors.new
+            (IsWritten self.old)) }
         ensures kept { NoneFell (output_failures output.old errors.old) (output_failures output.new errors.new) }
         ensures unfailed { OnOk result (output_failures output.new errors.new ≡ output_failures output.old errors.old) }
         ensures blamed { IfErr result (λ fault. IsWriteBlamed fault (output_failures output.old errors.old) (output_failures output.new errors.new)) }
         ensures fault { IfErr result (λ fault. fault ≡ WriteFault) }
-        ensures first_printed { OnErr result (AppendsFirst (O.contents (device_of output.old)) (O.contents (device_of output.new)) self.old.printed.items) }
-        ensures first_reported { OnErr result (AppendsFirst (E.contents (device_of errors.old)) (E.contents (device_of errors.new)) self.old.reported.items) }
-        ensures empty { HasEmptyBuffers self.new }
-        ensures failed { self.new.failed ≡ self.old.failed }
-        ensures last { self.new.last ≡ self.old.last }
+        ensures first { OnErr result (OnOutputs O.contents E.contents output.old errors.old output.new errors.new
+            (IsWrittenFirst self.old)) }
+        ensures emptied { IsEmptied self.old self.new }
     {
         let done = self.write_both(output, errors);
         self.printed.clear();
@@ -497,14 +479,14 @@ impl OutputBuffers {
         output: &mut Watched<O>,
         errors: &mut Watched<E>,
     ) -> Result<(), StreamFault>
-        ensures printed { OnOk result (Appends (O.contents (device_of output.old)) (O.contents (device_of output.new)) self.now.printed.items) }
-        ensures reported { OnOk result (Appends (E.contents (device_of errors.old)) (E.contents (device_of errors.new)) self.now.reported.items) }
+        ensures written { OnOk result (OnOutputs O.contents E.contents output.old errors.old output.new errors.new
+            (IsWritten self.now)) }
         ensures kept { NoneFell (output_failures output.old errors.old) (output_failures output.new errors.new) }
         ensures unfailed { OnOk result (output_failures output.new errors.new ≡ output_failures output.old errors.old) }
         ensures blamed { IfErr result (λ fault. IsWriteBlamed fault (output_failures output.old errors.old) (output_failures output.new errors.new)) }
         ensures fault { IfErr result (λ fault. fault ≡ WriteFault) }
-        ensures first_printed { OnErr result (AppendsFirst (O.contents (device_of output.old)) (O.contents (device_of output.new)) self.now.printed.items) }
-        ensures first_reported { OnErr result (AppendsFirst (E.contents (device_of errors.old)) (E.contents (device_of errors.new)) self.now.reported.items) }
+        ensures first { OnErr result (OnOutputs O.contents E.contents output.old errors.old output.new errors.new
+            (IsWrittenFirst self.now)) }
     {
         let printed = write(output, &self.printed);
         write(errors, &self.reported)?;

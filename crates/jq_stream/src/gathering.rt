@@ -7,7 +7,7 @@ ghost use Rattle.jq_devices.specs.Watched.{HasFailed, device_of, failures_of};
 ghost use Rattle.jq_devices.specs.declared.faults.StreamFault.TheVariants.{Read as ReadFault, Write as WriteFault};
 ghost use Rattle.jq_devices.specs.Reading.{IsWhole};
 ghost use Rattle.jq_stream.specs.Texts.{EndsAs};
-ghost use Rattle.jq_stream.specs.private.Cutting.{IsStop};
+ghost use Rattle.jq_stream.specs.private.Cutting.{GivesUpTo};
 ghost use Rattle.jq_stream.specs.private.Gathering.{IsGathered};
 
 use crate::feeding::feed_next;
@@ -64,8 +64,7 @@ pub(crate) fn gather<R: Read>(
 // Adds every value that is complete so far, up to a faulty text.
 fn keep_ready(cutter: &mut Cutter, values: &mut Vec<Val>) -> Result<Option<Fault>, NoMemory>
     requires { (fed : List ℕ) × HasGiven cutter.old (map view values.old.items) fed }
-    ensures given { IfOk result (λ stop. (fed : List ℕ) → HasGiven cutter.old (map view values.old.items) fed
-        → HasGiven cutter.new (map view values.new.items) fed × IsStop stop cutter.new (map view values.new.items) fed) }
+    ensures given { IfOk result (λ stop. GivesUpTo stop cutter.old cutter.new (map view values.old.items) (map view values.new.items)) }
     ensures finished { is_finished cutter.new ≡ is_finished cutter.old }
     ensures count { fed_count cutter.new ≡ fed_count cutter.old }
 {

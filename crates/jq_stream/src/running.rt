@@ -2,21 +2,22 @@
 ghost use Rattle.std.specs.Prelude.{◌≡◌, ◌≢◌, IfErr, IfOk, OnErr, OnOk, map, true, false};
 ghost use Rattle.jv_meaning.specs.Value.{null, array, items_of};
 ghost use Rattle.jv_data.specs.View.{view};
-ghost use Rattle.jq_meaning.specs.Runs.{none};
 ghost use Rattle.jq_starts.specs.Starts.{HasStarted, HasStartedAtMost};
 ghost use Rattle.jq_state.specs.Inputs.{inputs_of, fault_ending};
 ghost use Rattle.jq_devices.specs.Watched.{HasFailed, failures_of};
 ghost use Rattle.jq_devices.specs.declared.faults.StreamFault.TheVariants.{Read as ReadFault, Write as WriteFault};
 ghost use Rattle.jq_filters.specs.Outcomes.{on_each, on_null, on_all};
-ghost use Rattle.jq_filters.specs.Runner.{job_of, mode_of};
+ghost use Rattle.jq_filters.specs.Runner.{job_of};
 ghost use Rattle.jq_filters.specs.Running.{run_on};
-ghost use Rattle.jq_stream.specs.Streams.{IsStreamRun, streams_of};
-ghost use Rattle.jq_stream.specs.private.Outputs.{outputs_of};
-ghost use Rattle.jq_stream.specs.Stopped.{IsOnePass, IsStreamStopped, WritesFirst};
+ghost use Rattle.jq_stream.specs.Runs.{HasRun, HasStopped};
+ghost use Rattle.jq_stream.specs.Streams.{OnStreams};
+ghost use Rattle.jq_stream.specs.private.Outputs.{OnOutputs};
+ghost use Rattle.jq_stream.specs.Stopped.{IsOnePass, WritesFirst};
 ghost use Rattle.jq_stream.specs.Failures.{AnOutputHasFailed, output_failures};
 ghost use Rattle.jq_stream.specs.private.Blaming.{IsWriteBlamed};
 ghost use Rattle.jq_stream.specs.private.Gathering.{stop_ending};
-ghost use Rattle.jq_stream.specs.private.Once.{IsRunOnce, run_outcome};
+ghost use Rattle.jq_stream.specs.private.Once.{IsRunOnce, run_on_array, run_outcome};
+ghost use Rattle.jq_stream.specs.private.Modes.{Runs, Stops};
 ghost use Rattle.jq_filters.specs.declared.settings.Mode.TheVariants.{OnEach, OnNull};
 
 use crate::answers::{OutputBuffers, Reached};
@@ -50,12 +51,12 @@ pub fn run_stream<R: Read, O: Write, E: Write>(
     output: &mut Watched<O>,
     errors: &mut Watched<E>,
 ) -> Result<u8, StreamFault>
-    ensures ran { IfOk result (λ status. IsStreamRun (mode_of settings.mode) (job_of settings runner.now)
-        (streams_of R.remaining O.contents E.contents input.old output.old errors.old) (streams_of R.remaining O.contents E.contents input.new output.new errors.new) status) }
-    ensures stopped { IfErr result (λ fault. IsStreamStopped fault (mode_of settings.mode) (job_of settings runner.now)
-        (streams_of R.remaining O.contents E.contents input.old output.old errors.old) (streams_of R.remaining O.contents E.contents input.new output.new errors.new)) }
-    ensures one_pass { settings.mode ≡ OnEach → IsOnePass (job_of settings runner.now)
-        (streams_of R.remaining O.contents E.contents input.old output.old errors.old) (streams_of R.remaining O.contents E.contents input.new output.new errors.new) }
+    ensures ran { IfOk result (λ status. OnStreams R.remaining O.contents E.contents input.old output.old errors.old input.new output.new errors.new
+        (HasRun settings runner.now status)) }
+    ensures stopped { IfErr result (λ fault. OnStreams R.remaining O.contents E.contents input.old output.old errors.old input.new output.new errors.new
+        (HasStopped fault settings runner.now)) }
+    ensures one_pass { settings.mode ≡ OnEach → OnStreams R.remaining O.contents E.contents input.old output.old errors.old input.new output.new errors.new
+        (IsOnePass (job_of settings runner.now)) }
     ensures read_failed { IfErr result (λ fault. fault ≡ ReadFault → HasFailed (failures_of input.old) (failures_of input.new)) }
     ensures write_failed { IfErr result (λ fault. fault ≡ WriteFault → AnOutputHasFailed (output_failures output.old errors.old) (output_failures output.new errors.new)) }
     ensures unread { settings.mode ≡ OnNull false → input.new ≡ input.old }
@@ -83,12 +84,12 @@ fn run_on_each<R: Read, O: Write, E: Write>(
     output: &mut Watched<O>,
     errors: &mut Watched<E>,
 ) -> Result<u8, StreamFault>
-    ensures ran { IfOk result (λ status. IsStreamRun on_each (job_of settings runner.now)
-        (streams_of R.remaining O.contents E.contents input.old output.old errors.old) (streams_of R.remaining O.contents E.contents input.new output.new errors.new) status) }
-    ensures stopped { IfErr result (λ fault. IsStreamStopped fault on_each (job_of settings runner.now)
-        (streams_of R.remaining O.contents E.contents input.old output.old errors.old) (streams_of R.remaining O.contents E.contents input.new output.new errors.new)) }
-    ensures one_pass { IsOnePass (job_of settings runner.now)
-        (streams_of R.remaining O.contents E.contents input.old output.old errors.old) (streams_of R.remaining O.contents E.contents input.new output.new errors.new) }
+    ensures ran { IfOk result (λ status. OnStreams R.remaining O.contents E.contents input.old output.old errors.old input.new output.new errors.new
+        (Runs on_each settings runner.now status)) }
+    ensures stopped { IfErr result (λ fault. OnStreams R.remaining O.contents E.contents input.old output.old errors.old input.new output.new errors.new
+        (Stops fault on_each settings runner.now)) }
+    ensures one_pass { OnStreams R.remaining O.contents E.contents input.old output.old errors.old input.new output.new errors.new
+        (IsOnePass (job_of settings runner.now)) }
     ensures read_failed { IfErr result (λ fault. fault ≡ ReadFault → HasFailed (failures_of input.old) (failures_of input.new)) }
     ensures write_failed { IfErr result (λ fault. fault ≡ WriteFault → AnOutputHasFailed (output_failures output.old errors.old) (output_failures output.new errors.new)) }
 {
@@ -128,10 +129,10 @@ fn run_on_null<R: Read, O: Write, E: Write>(
     output: &mut Watched<O>,
     errors: &mut Watched<E>,
 ) -> Result<u8, StreamFault>
-    ensures ran { IfOk result (λ status. IsStreamRun (on_null true) (job_of settings runner.now)
-        (streams_of R.remaining O.contents E.contents input.old output.old errors.old) (streams_of R.remaining O.contents E.contents input.new output.new errors.new) status) }
-    ensures stopped { IfErr result (λ fault. IsStreamStopped fault (on_null true) (job_of settings runner.now)
-        (streams_of R.remaining O.contents E.contents input.old output.old errors.old) (streams_of R.remaining O.contents E.contents input.new output.new errors.new)) }
+    ensures ran { IfOk result (λ status. OnStreams R.remaining O.contents E.contents input.old output.old errors.old input.new output.new errors.new
+        (Runs (on_null true) settings runner.now status)) }
+    ensures stopped { IfErr result (λ fault. OnStreams R.remaining O.contents E.contents input.old output.old errors.old input.new output.new errors.new
+        (Stops fault (on_null true) settings runner.now)) }
     ensures read_failed { IfErr result (λ fault. fault ≡ ReadFault → HasFailed (failures_of input.old) (failures_of input.new)) }
     ensures write_failed { IfErr result (λ fault. fault ≡ WriteFault → AnOutputHasFailed (output_failures output.old errors.old) (output_failures output.new errors.new)) }
 {
@@ -164,10 +165,10 @@ pub(crate) fn run_with<O: Write, E: Write>(
     output: &mut Watched<O>,
     errors: &mut Watched<E>,
 ) -> Result<u8, StreamFault>
-    ensures ok { IfOk result (λ status. IsRunOnce settings (run_on runner.now (inputs_of inputs) null)
-        (outputs_of O.contents E.contents output.old errors.old) (outputs_of O.contents E.contents output.new errors.new) status) }
-    ensures err { OnErr result (WritesFirst (run_outcome settings (run_on runner.now (inputs_of inputs) null))
-        (outputs_of O.contents E.contents output.old errors.old) (outputs_of O.contents E.contents output.new errors.new)) }
+    ensures ok { IfOk result (λ status. OnOutputs O.contents E.contents output.old errors.old output.new errors.new
+        (IsRunOnce settings (run_on runner.now (inputs_of inputs) null) status)) }
+    ensures err { OnErr result (OnOutputs O.contents E.contents output.old errors.old output.new errors.new
+        (WritesFirst (run_outcome settings (run_on runner.now (inputs_of inputs) null)))) }
     ensures unfailed { OnOk result (output_failures output.new errors.new ≡ output_failures output.old errors.old) }
     ensures blamed { IfErr result (λ fault. IsWriteBlamed fault (output_failures output.old errors.old) (output_failures output.new errors.new)) }
     ensures fault { IfErr result (λ fault. fault ≢ ReadFault) }
@@ -205,10 +206,10 @@ fn run_on_all<R: Read, O: Write, E: Write>(
     output: &mut Watched<O>,
     errors: &mut Watched<E>,
 ) -> Result<u8, StreamFault>
-    ensures ran { IfOk result (λ status. IsStreamRun on_all (job_of settings runner.now)
-        (streams_of R.remaining O.contents E.contents input.old output.old errors.old) (streams_of R.remaining O.contents E.contents input.new output.new errors.new) status) }
-    ensures stopped { IfErr result (λ fault. IsStreamStopped fault on_all (job_of settings runner.now)
-        (streams_of R.remaining O.contents E.contents input.old output.old errors.old) (streams_of R.remaining O.contents E.contents input.new output.new errors.new)) }
+    ensures ran { IfOk result (λ status. OnStreams R.remaining O.contents E.contents input.old output.old errors.old input.new output.new errors.new
+        (Runs on_all settings runner.now status)) }
+    ensures stopped { IfErr result (λ fault. OnStreams R.remaining O.contents E.contents input.old output.old errors.old input.new output.new errors.new
+        (Stops fault on_all settings runner.now)) }
     ensures read_failed { IfErr result (λ fault. fault ≡ ReadFault → HasFailed (failures_of input.old) (failures_of input.new)) }
     ensures write_failed { IfErr result (λ fault. fault ≡ WriteFault → AnOutputHasFailed (output_failures output.old errors.old) (output_failures output.new errors.new)) }
 {
@@ -234,10 +235,10 @@ pub(crate) fn run_on_array<O: Write, E: Write>(
     output: &mut Watched<O>,
     errors: &mut Watched<E>,
 ) -> Result<u8, StreamFault>
-    ensures ok { IfOk result (λ status. IsRunOnce settings (run_on runner.now none (array (items_of (map view values.items))))
-        (outputs_of O.contents E.contents output.old errors.old) (outputs_of O.contents E.contents output.new errors.new) status) }
-    ensures err { OnErr result (WritesFirst (run_outcome settings (run_on runner.now none (array (items_of (map view values.items)))))
-        (outputs_of O.contents E.contents output.old errors.old) (outputs_of O.contents E.contents output.new errors.new)) }
+    ensures ok { IfOk result (λ status. OnOutputs O.contents E.contents output.old errors.old output.new errors.new
+        (IsRunOnce settings (run_on_array runner.now (map view values.items)) status)) }
+    ensures err { OnErr result (OnOutputs O.contents E.contents output.old errors.old output.new errors.new
+        (WritesFirst (run_outcome settings (run_on_array runner.now (map view values.items))))) }
     ensures unfailed { OnOk result (output_failures output.new errors.new ≡ output_failures output.old errors.old) }
     ensures blamed { IfErr result (λ fault. IsWriteBlamed fault (output_failures output.old errors.old) (output_failures output.new errors.new)) }
     ensures fault { IfErr result (λ fault. fault ≢ ReadFault) }
@@ -268,10 +269,10 @@ fn run_once<O: Write, E: Write>(
     output: &mut Watched<O>,
     errors: &mut Watched<E>,
 ) -> Result<u8, StreamFault>
-    ensures ok { IfOk result (λ status. IsRunOnce settings (run_on runner.now (inputs_of inputs) (view value))
-        (outputs_of O.contents E.contents output.old errors.old) (outputs_of O.contents E.contents output.new errors.new) status) }
-    ensures err { OnErr result (WritesFirst (run_outcome settings (run_on runner.now (inputs_of inputs) (view value)))
-        (outputs_of O.contents E.contents output.old errors.old) (outputs_of O.contents E.contents output.new errors.new)) }
+    ensures ok { IfOk result (λ status. OnOutputs O.contents E.contents output.old errors.old output.new errors.new
+        (IsRunOnce settings (run_on runner.now (inputs_of inputs) (view value)) status)) }
+    ensures err { OnErr result (OnOutputs O.contents E.contents output.old errors.old output.new errors.new
+        (WritesFirst (run_outcome settings (run_on runner.now (inputs_of inputs) (view value))))) }
     ensures unfailed { OnOk result (output_failures output.new errors.new ≡ output_failures output.old errors.old) }
     ensures blamed { IfErr result (λ fault. IsWriteBlamed fault (output_failures output.old errors.old) (output_failures output.new errors.new)) }
     ensures fault { IfErr result (λ fault. fault ≢ ReadFault) }

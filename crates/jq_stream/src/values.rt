@@ -2,12 +2,12 @@
 ghost use Rattle.std.specs.Prelude.{◌≡◌, IfOk, OnErr, OnOk, map};
 ghost use Rattle.jv_data.specs.View.{view};
 ghost use Rattle.jq_starts.specs.Starts.{HasStarted, HasStartedAtMost};
-ghost use Rattle.jq_filters.specs.Outcomes.{first_halt, on_each, up_to_halt};
+ghost use Rattle.jq_filters.specs.Outcomes.{first_halt, on_each};
 ghost use Rattle.jq_filters.specs.Present.{values_outcome, run_count};
 ghost use Rattle.jq_filters.specs.Runner.{job_of, mode_of};
-ghost use Rattle.jq_stream.specs.private.Outputs.{outputs_of};
-ghost use Rattle.jq_stream.specs.private.Answering.{IsAnswered, runs_on};
-ghost use Rattle.jq_stream.specs.private.Valued.{IsValuesRun, runs_by_mode};
+ghost use Rattle.jq_stream.specs.private.Outputs.{OnOutputs};
+ghost use Rattle.jq_stream.specs.private.Answering.{IsAnsweredToHalt, runs_on};
+ghost use Rattle.jq_stream.specs.private.Valued.{HasRunOn, runs_by_mode};
 
 use crate::answers::OutputBuffers;
 use crate::running::{run_on_array, run_with};
@@ -77,8 +77,8 @@ fn write_values<O: Write, E: Write>(
     output: &mut Watched<O>,
     errors: &mut Watched<E>,
 ) -> Result<(u8, u64), StreamFault>
-    ensures ran { IfOk result (λ answer. IsValuesRun (mode_of settings.mode) (job_of settings runner.now) (map view values.now)
-        (outputs_of O.contents E.contents output.old errors.old) (outputs_of O.contents E.contents output.new errors.new) answer) }
+    ensures ran { IfOk result (λ done. OnOutputs O.contents E.contents output.old errors.old output.new errors.new
+        (HasRunOn (mode_of settings.mode) settings runner.now (map view values.now) done)) }
     ensures started { OnOk result (HasStarted (runs_by_mode (mode_of settings.mode) (job_of settings runner.now) (map view values.now)) starts.old starts.new) }
     ensures at_most { OnErr result (HasStartedAtMost (runs_by_mode (mode_of settings.mode) (job_of settings runner.now) (map view values.now)) starts.old starts.new) }
 {
@@ -113,8 +113,8 @@ fn write_each<O: Write, E: Write>(
     output: &mut Watched<O>,
     errors: &mut Watched<E>,
 ) -> Result<(u8, u64), StreamFault>
-    ensures ran { IfOk result (λ answer. IsValuesRun on_each (job_of settings runner.now) (map view values.now)
-        (outputs_of O.contents E.contents output.old errors.old) (outputs_of O.contents E.contents output.new errors.new) answer) }
+    ensures ran { IfOk result (λ done. OnOutputs O.contents E.contents output.old errors.old output.new errors.new
+        (HasRunOn on_each settings runner.now (map view values.now) done)) }
     ensures started { OnOk result (HasStarted (run_count on_each (job_of settings runner.now) (map view values.now)) starts.old starts.new) }
     ensures at_most { OnErr result (HasStartedAtMost (run_count on_each (job_of settings runner.now) (map view values.now)) starts.old starts.new) }
 {
@@ -145,8 +145,8 @@ fn answer_each<O: Write, E: Write>(
     output: &mut Watched<O>,
     errors: &mut Watched<E>,
 ) -> Result<(Option<u8>, u64), StreamFault>
-    ensures answered { OnOk result (IsAnswered settings.style (up_to_halt (runs_on (job_of settings runner.now) (map view values.now))) answers.old answers.new
-        (outputs_of O.contents E.contents output.old errors.old) (outputs_of O.contents E.contents output.new errors.new)) }
+    ensures answered { OnOk result (OnOutputs O.contents E.contents output.old errors.old output.new errors.new
+        (IsAnsweredToHalt settings runner.now (map view values.now) answers.old answers.new)) }
     ensures halt { IfOk result (λ done. done.0 ≡ first_halt (runs_on (job_of settings runner.now) (map view values.now))) }
     ensures runs { IfOk result (λ done. done.1 ≡ run_count on_each (job_of settings runner.now) (map view values.now)) }
     ensures started { OnOk result (HasStarted (run_count on_each (job_of settings runner.now) (map view values.now)) starts.old starts.new) }

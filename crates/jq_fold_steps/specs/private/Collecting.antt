@@ -4,7 +4,8 @@ use Rattle.jv_data.specs.View.{view}
 use Rattle.jv_data.specs.declared.values.Val.{Val}
 use Rattle.jv_text.specs.declared.printing.Style.{Style}
 use Rattle.jq_meaning.specs.Runs.{Item, Done, Ending, as_value, value_in}
-use Rattle.jq_folds.specs.Pieces.{FoldState, going, stopped, Stepped}
+use Rattle.jq_folds.specs.Pieces.{FoldState, going, stopped, Stepped, with_state}
+use Rattle.jq_folds.specs.laws.States.{LeadsTo}
 use Rattle.jq_pages.specs.Pieces.{PieceView, piece_view}
 use Rattle.jq_pages.specs.declared.pieces.Piece.{Piece}
 use Rattle.jq_pages.specs.declared.pieces.Last.{Last}
@@ -32,6 +33,12 @@ IsHeld (Some v) done xs = (x : Item) × (xs ≡ x ∷ []) × (value_in x ≡ vie
 pub record IsKept (style : Style) (s : Stepped) (p : Piece) (state : code.FoldState) : Type 0 where
   pub piece : piece_view p ≡ piece_of style s.run
   pub next : state_in state ≡ valued s.next
+
+-- With these outputs in a piece, and what is held back, a run ends so: this is the piece of its step and the state after it.
+abbrev pub EndsStep : Style → (so_far : Piece) → (held : Option Val) → Ending → (p : Piece) → (state : code.FoldState) → Type 0
+EndsStep style so_far held ending p state =
+    (s : Stepped) (done xs : List Item) → LeadsTo s.run.ending s.next → piece_view so_far ≡ piece_so_far style done → IsHeld held done xs
+    → with_state s ≡ record { items = done ++ xs; ending = ending } → IsKept style s p state
 
 -- This text was added to the output, and it is that of the last output.
 pub record IsAdded (text : List ℕ) (kind : Last) (old new : Piece) : Type 0 where

@@ -5,7 +5,14 @@ use Rattle.jq_meaning.specs.Runs.{Run, Item, none}
 use Rattle.jq_machine.specs.State.{Scope, Next, give, evaluate}
 use Rattle.jq_engine.specs.Engine.{IsRest}
 use Rattle.jq_engine.specs.declared.engines.Engine.{Engine}
-use Rattle.jq_folds.specs.Folding.{FoldAt}
+use Rattle.jq_folds.specs.Folding.{FoldAt, fold_in}
+use Rattle.jq_ast.specs.Named.{named}
+use Rattle.jq_filters.specs.declared.runner.Runner.{Runner}
+use Rattle.jq_fold_steps.specs.Bindings.{env_of}
+
+-- the fold that a filter is in the bindings of its program, if it is one
+abbrev pub fold_of_runner : Runner → Option FoldAt
+fold_of_runner runner = fold_in (named runner.tree.now) (env_of runner.bindings.now)
 
 -- The engine stands for this run. Without an engine nothing is run.
 abbrev pub IsRun : Option Engine → Run Item → Type 0

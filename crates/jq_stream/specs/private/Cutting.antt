@@ -19,6 +19,10 @@ abbrev pub IsStop : Option Fault → Cutter → List Value → List ℕ → Type
 IsStop (Some f) cutter given fed = fault_of cutter ≡ Some f
 IsStop None cutter given fed = AllGiven (is_finished cutter) given fed
 
+-- After the values that were given before, the cutter gave others, up to a fault or all that are complete so far.
+abbrev pub GivesUpTo : Option Fault → (old new : Cutter) → (given_old given_new : List Value) → Type 0
+GivesUpTo stop old new given_old given_new = (fed : List ℕ) → HasGiven old given_old fed → HasGiven new given_new fed × IsStop stop new given_new fed
+
 -- Up to where values were answered, by the runs on them: all values that are complete so far, all in front of a fault, or those up to
 -- a run that halts.
 abbrev pub IsReached : Reached → List (Run Item) → Cutter → List Value → List ℕ → Type 0

@@ -1,4 +1,4 @@
-use Rattle.std.proofs.Common.{◌≤◌, length, ◌++◌, [], Err, ap, sym, ◌∙◌, arith, refl}
+use Rattle.std.proofs.Common.{◌≤◌, length, ◌++◌, [], sym, ◌∙◌, arith, refl}
 use Rattle.jv_meaning.proofs.shared.Results.{error_returned, if_other}
 use Rattle.jq_devices.proofs.shared.Failures.{failed_after}
 use Rattle.jq_devices.proofs.shared.Writing.{first_result}
@@ -7,7 +7,7 @@ use Rattle.jq_filters.specs.Outcomes.{on_each}
 use Rattle.jq_filters.specs.Runner.{job_of}
 use Rattle.jq_stream.specs.Streams.{streams_of}
 use Rattle.jq_stream.specs.Failures.{output_failures}
-use Rattle.jq_stream.proofs.Blaming.{after_none, report_failed, write_failed}
+use Rattle.jq_stream.proofs.Blaming.{after_none, never_read, report_failed, write_failed}
 use Rattle.jq_stream.proofs.Giving.{nothing_given, all_unended}
 use Rattle.jq_stream.proofs.Going.{going_begun, going_on, each_ended, each_halted, each_reported, line_stopped, piece_stopped, answers_stopped, unbegun, one_pass, one_pass_answered, one_pass_begun, one_pass_unfed, one_pass_reported}
 use Rattle.jq_stream.proofs.running.run_on_each.Goals as goal
@@ -35,68 +35,68 @@ returns-in_err-ended-clause-stopped g c =
     let before = c.loop-piece.invariant.going in
     let job = job_of c.args.settings c.args.runner.now in
     error_returned c.from_residual-in_err-ended.result c.in_err-ended.field-0.0 _ c.from_residual-in_err-ended.ensures.1
-    (piece_stopped c.in_err-ended.field-0.0 job _ _ _ _ _ before.0 before.1 before.2 before.3 c.loop-piece.invariant.unended (λ e. c.in_err-ended.ensures.unread (ap Err e)))
+    (piece_stopped c.in_err-ended.field-0.0 job _ _ _ _ _ before.0 before.1 before.2 before.3 c.loop-piece.invariant.unended c.in_err-ended.ensures.unfed.unread)
 
 pub returns-in_err-reached-clause-stopped : goal.returns-in_err-reached-clause-stopped
 returns-in_err-reached-clause-stopped g c =
     let before = c.loop-piece.invariant.going in
     let job = job_of c.args.settings c.args.runner.now in
-    let read = c.in_ok-ended.ensures.fed before.0 before.1 before.2.has_given in
+    let read = c.in_ok-ended.ensures.fed.given before.0 before.1 before.2.has_given in
     let part = c.in_err-reached.ensures.stopped before.0 (before.1 ++ read.0) read.2 in
     let new = streams_of g.R.Read.remaining g.O.Write.contents g.E.Write.contents c.feed_next.new.input c.answer_ready.new.output c.answer_ready.new.errors in
     error_returned c.from_residual-in_err-reached.result c.in_err-reached.field-0.0 _ c.from_residual-in_err-reached.ensures.1
     (answers_stopped c.in_err-reached.field-0.0 job _ _ new _ c.answer_ready.new.cutter _ before.0 part.0 before.1 read.0 before.2 read.1 part.1 part.2 (part.3, part.4)
-    (λ t. c.in_ok-ended.ensures.at_end (sym c.in_ok-ended.ensures.ended ∙ sym c.in_err-reached.ensures.finished ∙ t)) c.in_err-reached.ensures.fault)
+    (λ t. c.in_ok-ended.ensures.fed.at_end (sym c.in_ok-ended.ensures.fed.finished ∙ sym c.in_err-reached.ensures.unfed.finished ∙ t)) (never_read c.in_err-reached.field-0.0 _ _ c.in_err-reached.ensures.blamed))
 
 pub returns-in-Fault-clause-ran : goal.returns-in-Fault-clause-ran
 returns-in-Fault-clause-ran g c =
     let before = c.loop-piece.invariant.going in
     let job = job_of c.args.settings c.args.runner.now in
-    let read = c.in_ok-ended.ensures.fed before.0 before.1 before.2.has_given in
+    let read = c.in_ok-ended.ensures.fed.given before.0 before.1 before.2.has_given in
     let ready = c.in_ok-reached.ensures.answered before.0 (before.1 ++ read.0) read.2 in
     let reached = rw c.in-Fault.is at ready.1.up_to in
     let new = streams_of g.R.Read.remaining g.O.Write.contents g.E.Write.contents c.feed_next.new.input c.answer_ready.new.output c.answer_ready.new.errors in
     let on = going_on job _ _ new _ c.answer_ready.new.cutter _ _ before.0 ready.0 before.1 read.0 before.2 read.1 ready.1.has_given reached.1 ready.2 c.in_ok-reached.ensures.empty in
     each_reported c.report_fault.result job _ new _ _ _ _ _ c.in-Fault.fault on reached.0
-    (λ t. c.in_ok-ended.ensures.at_end (sym c.in_ok-ended.ensures.ended ∙ sym c.in_ok-reached.ensures.finished ∙ t)) c.report_fault.ensures.status c.report_fault.ensures.ok
+    (λ t. c.in_ok-ended.ensures.fed.at_end (sym c.in_ok-ended.ensures.fed.finished ∙ sym c.in_ok-reached.ensures.unfed.finished ∙ t)) c.report_fault.ensures.status c.report_fault.ensures.ok
 
 pub returns-in-Fault-clause-stopped : goal.returns-in-Fault-clause-stopped
 returns-in-Fault-clause-stopped g c =
     let before = c.loop-piece.invariant.going in
     let job = job_of c.args.settings c.args.runner.now in
-    let read = c.in_ok-ended.ensures.fed before.0 before.1 before.2.has_given in
+    let read = c.in_ok-ended.ensures.fed.given before.0 before.1 before.2.has_given in
     let ready = c.in_ok-reached.ensures.answered before.0 (before.1 ++ read.0) read.2 in
     let reached = rw c.in-Fault.is at ready.1.up_to in
     let new = streams_of g.R.Read.remaining g.O.Write.contents g.E.Write.contents c.feed_next.new.input c.answer_ready.new.output c.answer_ready.new.errors in
     let on = going_on job _ _ new _ c.answer_ready.new.cutter _ _ before.0 ready.0 before.1 read.0 before.2 read.1 ready.1.has_given reached.1 ready.2 c.in_ok-reached.ensures.empty in
     line_stopped c.report_fault.result job _ new _ _ _ _ _ c.in-Fault.fault on reached.0
-    (λ t. c.in_ok-ended.ensures.at_end (sym c.in_ok-ended.ensures.ended ∙ sym c.in_ok-reached.ensures.finished ∙ t)) c.report_fault.ensures.err c.report_fault.ensures.fault
+    (λ t. c.in_ok-ended.ensures.fed.at_end (sym c.in_ok-ended.ensures.fed.finished ∙ sym c.in_ok-reached.ensures.unfed.finished ∙ t)) c.report_fault.ensures.err c.report_fault.ensures.fault
 
 pub returns-then-ended-clause-ran : goal.returns-then-ended-clause-ran
 returns-then-ended-clause-ran g c =
     let before = c.loop-piece.invariant.going in
     let job = job_of c.args.settings c.args.runner.now in
-    let read = c.in_ok-ended.ensures.fed before.0 before.1 before.2.has_given in
+    let read = c.in_ok-ended.ensures.fed.given before.0 before.1 before.2.has_given in
     let ready = c.in_ok-reached.ensures.answered before.0 (before.1 ++ read.0) read.2 in
     let reached = rw c.in-All.is at ready.1.up_to in
     let new = streams_of g.R.Read.remaining g.O.Write.contents g.E.Write.contents c.feed_next.new.input c.answer_ready.new.output c.answer_ready.new.errors in
     let on = going_on job _ _ new _ c.answer_ready.new.cutter _ _ before.0 ready.0 before.1 read.0 before.2 read.1 ready.1.has_given reached.1 ready.2 c.in_ok-reached.ensures.empty in
-    each_ended job _ new _ _ _ _ c.status.result on (c.in_ok-ended.ensures.at_end c.if-ended.true)
-    (c.in_ok-reached.ensures.finished ∙ c.in_ok-ended.ensures.ended ∙ c.if-ended.true) reached.0 c.status.ensures
+    each_ended job _ new _ _ _ _ c.status.result on (c.in_ok-ended.ensures.fed.at_end c.if-ended.true)
+    (c.in_ok-reached.ensures.unfed.finished ∙ c.in_ok-ended.ensures.fed.finished ∙ c.if-ended.true) reached.0 c.status.ensures
 
 pub loop-piece-preserved : goal.loop-piece-preserved
 loop-piece-preserved g c =
     let before = c.loop-piece.invariant.going in
     let job = job_of c.args.settings c.args.runner.now in
-    let read = c.in_ok-ended.ensures.fed before.0 before.1 before.2.has_given in
+    let read = c.in_ok-ended.ensures.fed.given before.0 before.1 before.2.has_given in
     let ready = c.in_ok-reached.ensures.answered before.0 (before.1 ++ read.0) read.2 in
     let reached = rw c.in-All.is at ready.1.up_to in
     let new = streams_of g.R.Read.remaining g.O.Write.contents g.E.Write.contents c.feed_next.new.input c.answer_ready.new.output c.answer_ready.new.errors in
     let on = going_on job _ _ new _ c.answer_ready.new.cutter _ _ before.0 ready.0 before.1 read.0 before.2 read.1 ready.1.has_given reached.1 ready.2 c.in_ok-reached.ensures.empty in
-    let unended = c.in_ok-reached.ensures.finished ∙ c.in_ok-ended.ensures.ended ∙ c.if-ended.false in
+    let unended = c.in_ok-reached.ensures.unfed.finished ∙ c.in_ok-ended.ensures.fed.finished ∙ c.if-ended.false in
     let all = all_unended _ _ _ unended reached.0 in
-    let count = c.in_ok-ended.ensures.count c.if-ended.false in
-    let kept = c.in_ok-reached.ensures.count in
+    let count = c.in_ok-ended.ensures.fed.count c.if-ended.false in
+    let kept = c.in_ok-reached.ensures.unfed.count in
     let was = c.loop-piece.invariant.count in
     let len = c.deref_mut.ensures.len in
     let piece = c.loop-piece.invariant.room in
@@ -119,7 +119,7 @@ pub returns-in_err-ended-clause-one_pass : goal.returns-in_err-ended-clause-one_
 returns-in_err-ended-clause-one_pass g c =
     let before = c.loop-piece.invariant.going in
     let job = job_of c.args.settings c.args.runner.now in
-    let lost = c.in_err-ended.ensures.lost in
+    let lost = c.in_err-ended.ensures.unfed.lost in
     let len = c.deref_mut.ensures.len in
     let room = c.loop-piece.invariant.room in
     let small : length lost.0 ≤ 65536 = omega (arith, lost.2) in
@@ -129,7 +129,7 @@ pub returns-in_err-reached-clause-one_pass : goal.returns-in_err-reached-clause-
 returns-in_err-reached-clause-one_pass g c =
     let before = c.loop-piece.invariant.going in
     let job = job_of c.args.settings c.args.runner.now in
-    let read = c.in_ok-ended.ensures.fed before.0 before.1 before.2.has_given in
+    let read = c.in_ok-ended.ensures.fed.given before.0 before.1 before.2.has_given in
     let part = c.in_err-reached.ensures.stopped before.0 (before.1 ++ read.0) read.2 in
     let len = c.deref_mut.ensures.len in
     let room = c.loop-piece.invariant.room in
@@ -140,7 +140,7 @@ pub returns-in-Fault-clause-one_pass : goal.returns-in-Fault-clause-one_pass
 returns-in-Fault-clause-one_pass g c =
     let before = c.loop-piece.invariant.going in
     let job = job_of c.args.settings c.args.runner.now in
-    let read = c.in_ok-ended.ensures.fed before.0 before.1 before.2.has_given in
+    let read = c.in_ok-ended.ensures.fed.given before.0 before.1 before.2.has_given in
     let ready = c.in_ok-reached.ensures.answered before.0 (before.1 ++ read.0) read.2 in
     let reached = rw c.in-Fault.is at ready.1.up_to in
     let new = streams_of g.R.Read.remaining g.O.Write.contents g.E.Write.contents c.feed_next.new.input c.answer_ready.new.output c.answer_ready.new.errors in
@@ -154,7 +154,7 @@ pub returns-then-ended-clause-one_pass : goal.returns-then-ended-clause-one_pass
 returns-then-ended-clause-one_pass g c =
     let before = c.loop-piece.invariant.going in
     let job = job_of c.args.settings c.args.runner.now in
-    let read = c.in_ok-ended.ensures.fed before.0 before.1 before.2.has_given in
+    let read = c.in_ok-ended.ensures.fed.given before.0 before.1 before.2.has_given in
     let ready = c.in_ok-reached.ensures.answered before.0 (before.1 ++ read.0) read.2 in
     let len = c.deref_mut.ensures.len in
     let room = c.loop-piece.invariant.room in
@@ -165,7 +165,7 @@ pub returns-in-Halt-clause-one_pass : goal.returns-in-Halt-clause-one_pass
 returns-in-Halt-clause-one_pass g c =
     let before = c.loop-piece.invariant.going in
     let job = job_of c.args.settings c.args.runner.now in
-    let read = c.in_ok-ended.ensures.fed before.0 before.1 before.2.has_given in
+    let read = c.in_ok-ended.ensures.fed.given before.0 before.1 before.2.has_given in
     let ready = c.in_ok-reached.ensures.answered before.0 (before.1 ++ read.0) read.2 in
     let len = c.deref_mut.ensures.len in
     let room = c.loop-piece.invariant.room in
@@ -176,17 +176,23 @@ pub returns-in-Halt-clause-ran : goal.returns-in-Halt-clause-ran
 returns-in-Halt-clause-ran g c =
     let before = c.loop-piece.invariant.going in
     let job = job_of c.args.settings c.args.runner.now in
-    let read = c.in_ok-ended.ensures.fed before.0 before.1 before.2.has_given in
+    let read = c.in_ok-ended.ensures.fed.given before.0 before.1 before.2.has_given in
     let ready = c.in_ok-reached.ensures.answered before.0 (before.1 ++ read.0) read.2 in
     let halts = rw c.in-Halt.is at ready.1.up_to in
     let new = streams_of g.R.Read.remaining g.O.Write.contents g.E.Write.contents c.feed_next.new.input c.answer_ready.new.output c.answer_ready.new.errors in
     each_halted job _ _ new _ c.answer_ready.new.cutter _ _ before.0 ready.0 before.1 read.0 c.in-Halt.status before.2 read.1 ready.1.has_given halts ready.2 c.in_ok-reached.ensures.empty
-    (λ t. c.in_ok-ended.ensures.at_end (sym c.in_ok-ended.ensures.ended ∙ sym c.in_ok-reached.ensures.finished ∙ t))
+    (λ t. c.in_ok-ended.ensures.fed.at_end (sym c.in_ok-ended.ensures.fed.finished ∙ sym c.in_ok-reached.ensures.unfed.finished ∙ t))
 
 pub returns-in_err-ended-clause-read_failed : goal.returns-in_err-ended-clause-read_failed
 returns-in_err-ended-clause-read_failed g c =
     error_returned c.from_residual-in_err-ended.result c.in_err-ended.field-0.0 _ c.from_residual-in_err-ended.ensures.1
-    (λ is. failed_after _ _ _ c.loop-piece.invariant.input (c.in_err-ended.ensures.failed is))
+    (λ is. failed_after _ _ _ c.loop-piece.invariant.input (c.in_err-ended.ensures.unfed.failed is))
+
+pub returns-in_err-reached-clause-read_failed : goal.returns-in_err-reached-clause-read_failed
+returns-in_err-reached-clause-read_failed g c =
+    let fault = c.in_err-reached.field-0.0 in
+    error_returned c.from_residual-in_err-reached.result fault _ c.from_residual-in_err-reached.ensures.1
+    (λ is. absurd (never_read fault _ _ c.in_err-reached.ensures.blamed is))
 
 pub returns-in_err-reached-clause-write_failed : goal.returns-in_err-reached-clause-write_failed
 returns-in_err-reached-clause-write_failed g c =

@@ -1,6 +1,6 @@
 use Rattle.std.proofs.Common.{◌∙◌}
 use Rattle.jv_meaning.proofs.shared.Results.{error_returned, on_err}
-use Rattle.jq_devices.proofs.shared.Writing.{first_whole}
+use Rattle.jq_stream.proofs.Answering.{first_of_written}
 use Rattle.jq_stream.proofs.Once.{once_ran, once_stopped, nothing_written, either_run}
 use Rattle.jq_stream.proofs.Blaming.{after_result, then_none}
 use Rattle.jq_stream.proofs.running.run_once.Goals as goal
@@ -12,20 +12,20 @@ pub returns-in_err-write_buffers-clause-err : goal.returns-in_err-write_buffers-
 returns-in_err-write_buffers-clause-err g c =
     let first = either_run c.run-done.result c.in_ok-engine.engine _ _ _ _ _ c.run-done.ensures.ok c.run-done.ensures.err _ c.in_ok-engine.ensures.run in
     let over = c.in_err-write_buffers.ensures in
-    on_err c.from_residual-in_err-write_buffers.result (once_stopped c.args.settings _ _ _ _ _ _ c.new-answers.ensures.empty first over.first_printed over.first_reported)
+    on_err c.from_residual-in_err-write_buffers.result (once_stopped c.args.settings _ _ _ _ _ _ c.new-answers.ensures.empty first over.first)
 
 pub returns-in_err-done-clause-err : goal.returns-in_err-done-clause-err
 returns-in_err-done-clause-err g c =
     let first = c.in_err-done.ensures.err _ c.in_ok-engine.ensures.run in
     let over = c.in_ok-write_buffers.ensures in
     on_err c.from_residual-in_err-done.result
-    (once_stopped c.args.settings _ _ _ _ _ _ c.new-answers.ensures.empty first (first_whole _ _ _ over.printed) (first_whole _ _ _ over.reported))
+    (once_stopped c.args.settings _ _ _ _ _ _ c.new-answers.ensures.empty first (first_of_written _ _ _ over.written))
 
 pub returns-clause-ok : goal.returns-clause-ok
 returns-clause-ok g c =
     let all = c.in_ok-done.ensures.ok _ c.in_ok-engine.ensures.run in
     let over = c.in_ok-write_buffers.ensures in
-    once_ran c.args.settings _ _ _ _ _ _ _ _ _ _ c.new-answers.ensures.empty c.new-answers.ensures.fresh all over.printed over.reported over.empty over.failed over.last
+    once_ran c.args.settings _ _ _ _ _ _ _ _ _ _ c.new-answers.ensures.empty c.new-answers.ensures.fresh all over.written over.emptied
     (c.in_ok-done.ensures.halt _ c.in_ok-engine.ensures.run) c.status-status.ensures c.unwrap_or.ensures
 
 pub returns-in_err-write_buffers-clause-blamed : goal.returns-in_err-write_buffers-clause-blamed

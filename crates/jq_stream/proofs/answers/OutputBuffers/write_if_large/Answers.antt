@@ -7,6 +7,6 @@ pub returns-in_err-write_buffers-clause-err : goal.returns-in_err-write_buffers-
 returns-in_err-write_buffers-clause-err g c =
     let over = c.in_err-write_buffers.ensures in
     on_err c.from_residual.result (record {
-      output = first_flushed _ _ _ [] _ _ (sym (append-nil _)) over.empty.printed over.first_printed;
-      errors = first_flushed _ _ _ [] _ _ (sym (append-nil _)) over.empty.reported over.first_reported;
+      output = first_flushed _ _ _ [] _ _ (sym (append-nil _)) over.emptied.empty.printed over.first.output;
+      errors = first_flushed _ _ _ [] _ _ (sym (append-nil _)) over.emptied.empty.reported over.first.errors;
     })
