@@ -15,9 +15,9 @@ use Rattle.jq_app.specs.Stopped.{CommandResult}
 use Rattle.jq_app.specs.declared.commands.Finished.{Finished}
 use Rattle.jq_app.specs.declared.counts.Counts.{Counts}
 
--- The words were carried out, or a fault was reported, and standard error may have notes. `plain` are the bytes on it without them.
--- The first five parameters say what each device tells: the opener, an open file, the standard input and both outputs. No file had
--- failed before.
+-- What the words ask for is done, or a fault was reported; `plain` are the bytes on standard error without notes. The failures of the
+-- files are counted from 0. The first five parameters say what each device tells: the opener, an open file, the standard input and both
+-- outputs.
 abbrev pub HasRunWords : {F G R O E : Type 0} → opener.Ghosts F G → reader.Ghosts G → reader.Ghosts R → writer.Ghosts O → writer.Ghosts E → (words : List (String Global)) → UnnamedFiles F → Counts → Watched R → Watched O
     → Watched E → Finished F E G → Watched R → Watched O → Type 0
 HasRunWords opening file read print report words unnamed counts input_old output_old errors_old finished input_new output_new =

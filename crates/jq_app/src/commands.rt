@@ -5,7 +5,7 @@ ghost use Rattle.jq_app.specs.Blaming.{IsBlamed, failures};
 ghost use Rattle.jq_app.specs.Commands.{HasRunWords};
 ghost use Rattle.jq_app.specs.Served.{ReadsTheStandardInput, WordsNeedInput};
 ghost use Rattle.jq_app.specs.private.Calls.{OnFilesFault, OnFilesStatus};
-ghost use Rattle.jq_app.specs.private.Commands.{AreWordsCutOff, AreWordsServed, HasReported};
+ghost use Rattle.jq_app.specs.private.Commands.{AreWordsServed, AreWordsStopped, HasReported};
 
 use crate::counts::Counts;
 use crate::notes::{asks_for_notes, fault_note, usage_note};
@@ -141,7 +141,7 @@ fn run_command<'a, F: Opener, R: Read, O: Write, E: Write>(
     ensures served { OnFilesStatus F.Opener F.File.Read R.Read O.Write E.Write files.entry counts input.old output.old errors.old result input.new output.new errors.new
         (AreWordsServed words.items) }
     ensures stopped { OnFilesFault F.Opener F.File.Read R.Read O.Write E.Write files.entry counts input.old output.old errors.old result input.new output.new errors.new
-        (AreWordsCutOff words.items) }
+        (AreWordsStopped words.items) }
     ensures blamed { IfErr result.result (λ fault. IsBlamed fault (failures 0 input.old output.old errors.old) (failures (failures_of result.files) input.new output.new errors.new)) }
     ensures unread { ¬ (WordsNeedInput (map string_bytes words.items)) → input.new ≡ input.old }
 {

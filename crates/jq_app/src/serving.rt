@@ -5,7 +5,7 @@ ghost use Rattle.jq_devices.specs.Watched.{failures_of};
 ghost use Rattle.jq_app.specs.Blaming.{IsBlamed, failures};
 ghost use Rattle.jq_app.specs.Served.{ReadsInput};
 ghost use Rattle.jq_app.specs.private.Calls.{OnFilesFault, OnFilesStatus};
-ghost use Rattle.jq_app.specs.private.Commands.{IsConfigCutOff, IsConfigServed};
+ghost use Rattle.jq_app.specs.private.Commands.{IsConfigDone, IsConfigStopped};
 
 use crate::counts::Counts;
 use crate::sessions::run_session;
@@ -34,9 +34,9 @@ pub(crate) fn run_config<'a, F: Opener, R: Read, O: Write, E: Write>(
     errors: &mut Watched<E>,
 ) -> Ended<'a, F>
     ensures done { OnFilesStatus F.Opener F.File.Read R.Read O.Write E.Write files.entry counts input.old output.old errors.old result input.new output.new errors.new
-        (IsConfigServed config) }
+        (IsConfigDone config) }
     ensures stopped { OnFilesFault F.Opener F.File.Read R.Read O.Write E.Write files.entry counts input.old output.old errors.old result input.new output.new errors.new
-        (IsConfigCutOff config) }
+        (IsConfigStopped config) }
     ensures blamed { IfErr result.result (λ fault. IsBlamed fault (failures 0 input.old output.old errors.old) (failures (failures_of result.files) input.new output.new errors.new)) }
     ensures unread { ¬ (ReadsInput (shown config)) → input.new ≡ input.old }
 {

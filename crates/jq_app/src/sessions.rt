@@ -12,7 +12,7 @@ ghost use Rattle.jq_app.specs.Sessions.{IsAccepted, too_many};
 ghost use Rattle.jq_run.specs.Reports.{IsReport};
 ghost use Rattle.jq_app.specs.private.Calls.{OnFault, OnStatus};
 ghost use Rattle.jq_app.specs.private.Served.{IsAnswered, IsCutOff, OnServing};
-ghost use Rattle.jq_app.specs.private.Sessions.{AreTextsCutOff, AreTextsServed, IsCompiledCutOff, IsCompiledServed, IsTextCutOff, IsTextServed};
+ghost use Rattle.jq_app.specs.private.Sessions.{IsFilterSessionDone, IsFilterSessionStopped, IsSessionOverTextsDone, IsSessionOverTextsStopped, IsTextSessionDone, IsTextSessionStopped};
 
 use crate::counts::Counts;
 use crate::refusals::refuse_inputs;
@@ -41,9 +41,9 @@ pub(crate) fn run_session<I: Read, R: Read, O: Write, E: Write>(
     errors: &mut Watched<E>,
 ) -> (Result<u8, StreamFault>, Counts)
     ensures done { OnStatus R.Read O.Write E.Write counts input.old output.old errors.old result input.new output.new errors.new
-        (IsTextServed I.remaining files.old follow options filter.now) }
+        (IsTextSessionDone I.remaining files.old follow options filter.now) }
     ensures stopped { OnFault R.Read O.Write E.Write counts input.old output.old errors.old result input.new output.new errors.new
-        (IsTextCutOff I.remaining files.old follow options filter.now) }
+        (IsTextSessionStopped I.remaining files.old follow options filter.now) }
     ensures blamed { IfErr result.0 (λ fault. IsBlamed fault (failures (failures_of files.old) input.old output.old errors.old) (failures (failures_of files.new) input.new output.new errors.new)) }
     ensures unread { ¬ (IsAccepted (chosen options) (chars filter.now)) → input.new ≡ input.old }
 {
@@ -90,9 +90,9 @@ fn serve_filter<I: Read, R: Read, O: Write, E: Write>(
     errors: &mut Watched<E>,
 ) -> (Result<u8, StreamFault>, Counts)
     ensures done { OnStatus R.Read O.Write E.Write counts input.old output.old errors.old result input.new output.new errors.new
-        (IsCompiledServed I.remaining files.old follow options filter) }
+        (IsFilterSessionDone I.remaining files.old follow options filter) }
     ensures stopped { OnFault R.Read O.Write E.Write counts input.old output.old errors.old result input.new output.new errors.new
-        (IsCompiledCutOff I.remaining files.old follow options filter) }
+        (IsFilterSessionStopped I.remaining files.old follow options filter) }
     ensures blamed { IfErr result.0 (λ fault. IsBlamed fault (failures (failures_of files.old) input.old output.old errors.old) (failures (failures_of files.new) input.new output.new errors.new)) }
 {
     match read_texts(alloc, files) {
@@ -116,9 +116,9 @@ fn serve_texts<R: Read, O: Write, E: Write>(
     errors: &mut Watched<E>,
 ) -> (Result<u8, StreamFault>, Counts)
     ensures done { OnStatus R.Read O.Write E.Write counts input.old output.old errors.old result input.new output.new errors.new
-        (AreTextsServed texts follow options filter) }
+        (IsSessionOverTextsDone texts follow options filter) }
     ensures stopped { OnFault R.Read O.Write E.Write counts input.old output.old errors.old result input.new output.new errors.new
-        (AreTextsCutOff texts follow options filter) }
+        (IsSessionOverTextsStopped texts follow options filter) }
     ensures blamed { IfErr result.0 (λ fault. (files : ℕ) → IsBlamed fault (failures files input.old output.old errors.old) (failures files input.new output.new errors.new)) }
 {
     let InputTexts { values, fault } = texts;

@@ -19,26 +19,26 @@ use Rattle.jq_app.specs.declared.counts.Counts.{Counts}
 
 -- ---- a configuration
 
--- What it asks for is done.
-abbrev pub IsConfigServed : Config → Files → (status : ℕ) → (old new : Stage) → Type 0
-IsConfigServed config files status old new = IsConfigurationDone files (shown config) old new status
+-- What it asks for is done, or its filter is refused.
+abbrev pub IsConfigDone : Config → Files → (status : ℕ) → (old new : Stage) → Type 0
+IsConfigDone config files status old new = IsConfigurationDone files (shown config) old new status
 
--- A fault cut it off.
-abbrev pub IsConfigCutOff : Config → Files → StreamFault → (old new : Stage) → Type 0
-IsConfigCutOff config files fault old new = IsConfigurationStopped fault files (shown config) old new
+-- A fault stopped it.
+abbrev pub IsConfigStopped : Config → Files → StreamFault → (old new : Stage) → Type 0
+IsConfigStopped config files fault old new = IsConfigurationStopped fault files (shown config) old new
 
 -- ---- the words
 
--- What they ask for is done, or they were answered.
+-- What they ask for is done, or the reply to them was written.
 abbrev pub AreWordsServed : (words : List (String Global)) → Files → (status : ℕ) → (old new : Stage) → Type 0
 AreWordsServed words files status old new = IsServed files (map string_bytes words) old new status
 
--- A fault cut it off.
-abbrev pub AreWordsCutOff : (words : List (String Global)) → Files → StreamFault → (old new : Stage) → Type 0
-AreWordsCutOff words files fault old new = IsStopped fault files (map string_bytes words) old new
+-- A fault stopped it.
+abbrev pub AreWordsStopped : (words : List (String Global)) → Files → StreamFault → (old new : Stage) → Type 0
+AreWordsStopped words files fault old new = IsStopped fault files (map string_bytes words) old new
 
--- It is done, or a fault was reported; no file had failed before. The first five parameters say what each device tells: an opener, an open
--- file, the standard input and both outputs.
+-- What they ask for is done, or a fault was reported. The failures of the files are counted from 0. The first five parameters say what each
+-- device tells: the opener, an open file, the standard input and both outputs.
 abbrev pub HasReported : {F G R O E : Type 0} → opener.Ghosts F G → reader.Ghosts G → reader.Ghosts R → writer.Ghosts O → writer.Ghosts E → (words : List (String Global)) → UnnamedFiles F → Counts → Watched R → Watched O
     → Watched E → Reported F G → Watched R → Watched O → Watched E → Type 0
 HasReported opening file read print report words unnamed counts input_old output_old errors_old reported input_new output_new errors_new =

@@ -17,35 +17,35 @@ use Rattle.jq_app.specs.private.Texts.{HaveTexts}
 -- ---- the filter with these bytes as its text
 
 -- The session of the filter over what the files have left is done, or none started.
-abbrev pub IsTextServed : {I : Type 0} → (left : I → Option (List ℕ)) → Watched I → (follow : Bool) → Options → (bytes : List ℕ) → (status : ℕ) → (old new : Stage) → Type 0
-IsTextServed left files follow options bytes status old new = IsSessionDone (left (device_of files)) follow (chosen options) (chars bytes) old new status
+abbrev pub IsTextSessionDone : {I : Type 0} → (left : I → Option (List ℕ)) → Watched I → (follow : Bool) → Options → (bytes : List ℕ) → (status : ℕ) → (old new : Stage) → Type 0
+IsTextSessionDone left files follow options bytes status old new = IsSessionDone (left (device_of files)) follow (chosen options) (chars bytes) old new status
 
--- A fault cut it off.
-abbrev pub IsTextCutOff : {I : Type 0} → (left : I → Option (List ℕ)) → Watched I → (follow : Bool) → Options → (bytes : List ℕ) → StreamFault → (old new : Stage) → Type 0
-IsTextCutOff left files follow options bytes fault old new = IsSessionStopped fault (left (device_of files)) follow (chosen options) (chars bytes) old new
+-- A fault stopped the session, or the report of why none starts.
+abbrev pub IsTextSessionStopped : {I : Type 0} → (left : I → Option (List ℕ)) → Watched I → (follow : Bool) → Options → (bytes : List ℕ) → StreamFault → (old new : Stage) → Type 0
+IsTextSessionStopped left files follow options bytes fault old new = IsSessionStopped fault (left (device_of files)) follow (chosen options) (chars bytes) old new
 
--- ---- a compiled filter, whichever text under these options it was compiled from
+-- ---- a compiled filter, for each text that these options accept as this filter
 
 -- Its session over what the files have left is done, or none started.
-abbrev pub IsCompiledServed : {I : Type 0} → (left : I → Option (List ℕ)) → Watched I → (follow : Bool) → Options → Filter → (status : ℕ) → (old new : Stage) → Type 0
-IsCompiledServed left files follow options filter status old new =
+abbrev pub IsFilterSessionDone : {I : Type 0} → (left : I → Option (List ℕ)) → Watched I → (follow : Bool) → Options → Filter → (status : ℕ) → (old new : Stage) → Type 0
+IsFilterSessionDone left files follow options filter status old new =
     (o : Chosen) (text : List ℕ) → IsFilterOf o text filter → chosen options ≡ o → IsSessionDone (left (device_of files)) follow o text old new status
 
--- A fault cut it off.
-abbrev pub IsCompiledCutOff : {I : Type 0} → (left : I → Option (List ℕ)) → Watched I → (follow : Bool) → Options → Filter → StreamFault → (old new : Stage) → Type 0
-IsCompiledCutOff left files follow options filter fault old new =
+-- A fault stopped the session, or the report of why none starts.
+abbrev pub IsFilterSessionStopped : {I : Type 0} → (left : I → Option (List ℕ)) → Watched I → (follow : Bool) → Options → Filter → StreamFault → (old new : Stage) → Type 0
+IsFilterSessionStopped left files follow options filter fault old new =
     (o : Chosen) (text : List ℕ) → IsFilterOf o text filter → chosen options ≡ o → IsSessionStopped fault (left (device_of files)) follow o text old new
 
--- ---- the same over texts that were read from files
+-- ---- the same over texts that were read, for all files that have these texts
 
--- Its session over these texts is done, or none started.
-abbrev pub AreTextsServed : InputTexts → (follow : Bool) → Options → Filter → (status : ℕ) → (old new : Stage) → Type 0
-AreTextsServed texts follow options filter status old new =
+-- Its session over the texts is done, or none started.
+abbrev pub IsSessionOverTextsDone : InputTexts → (follow : Bool) → Options → Filter → (status : ℕ) → (old new : Stage) → Type 0
+IsSessionOverTextsDone texts follow options filter status old new =
     (files : Option (List ℕ)) (o : Chosen) (text : List ℕ) → HaveTexts files (map view texts.values.items) texts.fault → IsFilterOf o text filter → chosen options ≡ o
     → IsSessionDone files follow o text old new status
 
--- A fault cut it off.
-abbrev pub AreTextsCutOff : InputTexts → (follow : Bool) → Options → Filter → StreamFault → (old new : Stage) → Type 0
-AreTextsCutOff texts follow options filter fault old new =
+-- A fault stopped the session, or the report of why none starts.
+abbrev pub IsSessionOverTextsStopped : InputTexts → (follow : Bool) → Options → Filter → StreamFault → (old new : Stage) → Type 0
+IsSessionOverTextsStopped texts follow options filter fault old new =
     (files : Option (List ℕ)) (o : Chosen) (text : List ℕ) → HaveTexts files (map view texts.values.items) texts.fault → IsFilterOf o text filter → chosen options ≡ o
     → IsSessionStopped fault files follow o text old new
