@@ -4,4 +4,5 @@ pub mod Served
 pub mod Explained
 pub mod Blaming
 pub mod Stopped
+pub mod Commands
 pub mod private

@@ -1,14 +1,11 @@
 // The command: its words, its input and its two outputs.
-ghost use Rattle.std.specs.Prelude.{◌≡◌, ℕ, List, IfErr, IfOk, map, string_bytes};
-ghost use Rattle.std.specs.declared.option.Option.{Option};
-ghost use Rattle.jq_devices.specs.Files.{bytes_left, opener_of};
-ghost use Rattle.jq_devices.specs.Watched.{device_of, failures_of};
-ghost use Rattle.jq_stream.specs.Streams.{streams, streams_of};
+ghost use Rattle.std.specs.Prelude.{◌≡◌, IfErr, map, string_bytes};
+ghost use Rattle.jq_devices.specs.Watched.{failures_of};
 ghost use Rattle.jq_app.specs.Blaming.{IsBlamed, failures};
-ghost use Rattle.jq_app.specs.Explained.{IsShown, asks_for_notes};
-ghost use Rattle.jq_app.specs.Served.{IsServed, ReadsTheStandardInput, WordsNeedInput};
-ghost use Rattle.jq_app.specs.Stages.{files_of, stage, started_in};
-ghost use Rattle.jq_app.specs.Stopped.{CommandResult, IsStopped};
+ghost use Rattle.jq_app.specs.Commands.{HasRunWords};
+ghost use Rattle.jq_app.specs.Served.{ReadsTheStandardInput, WordsNeedInput};
+ghost use Rattle.jq_app.specs.private.Calls.{OnFilesFault, OnFilesStatus};
+ghost use Rattle.jq_app.specs.private.Commands.{AreWordsServed, AreWordsStopped, HasReported};
 
 use crate::counts::Counts;
 use crate::notes::{asks_for_notes, fault_note, usage_note};
@@ -62,10 +59,7 @@ pub fn run_words<'a, F: Opener, R: Read, O: Write, E: Write>(
     output: &mut Watched<O>,
     errors: Watched<E>,
 ) -> Finished<'a, F, E>
-    ensures served { (plain : Option (List ℕ)) × IsShown (asks_for_notes (map string_bytes words.items)) (E.has_failed (device_of result.errors)) plain (E.contents (device_of result.errors))
-        × CommandResult (files_of (F.content (opener_of files.entry)) (bytes_left F.content F.File.remaining (device_of result.files))) (map string_bytes words.items)
-        (failures 0 input.old output.old errors) (failures (failures_of result.files) input.new output.new result.errors) (stage (streams_of R.remaining O.contents E.contents input.old output.old errors) (started_in counts))
-        (stage (streams (R.remaining (device_of input.new)) (O.contents (device_of output.new)) plain) (started_in result.counts)) result.status }
+    ensures served { HasRunWords F.Opener F.File.Read R.Read O.Write E.Write words.items files.entry counts input.old output.old errors result input.new output.new }
     ensures unread { ¬ (ReadsTheStandardInput (map string_bytes words.items)) → input.new ≡ input.old }
 {
     let asks = asks_for_notes(words.as_slice());
@@ -107,10 +101,7 @@ fn run_reported<'a, F: Opener, R: Read, O: Write, E: Write>(
     output: &mut Watched<O>,
     errors: &mut Watched<E>,
 ) -> Reported<'a, F>
-    ensures served { CommandResult (files_of (F.content (opener_of files.entry)) (bytes_left F.content F.File.remaining (device_of result.files))) (map string_bytes words.items)
-        (failures 0 input.old output.old errors.old) (failures (failures_of result.files) input.new output.new errors.new)
-        (stage (streams_of R.remaining O.contents E.contents input.old output.old errors.old) (started_in counts))
-        (stage (streams_of R.remaining O.contents E.contents input.new output.new errors.new) (started_in result.counts)) result.status }
+    ensures served { HasReported F.Opener F.File.Read R.Read O.Write E.Write words.items files.entry counts input.old output.old errors.old result input.new output.new errors.new }
     ensures unread { ¬ (ReadsTheStandardInput (map string_bytes words.items)) → input.new ≡ input.old }
 {
     let Ended {
@@ -147,12 +138,10 @@ fn run_command<'a, F: Opener, R: Read, O: Write, E: Write>(
     output: &mut Watched<O>,
     errors: &mut Watched<E>,
 ) -> Ended<'a, F>
-    ensures served { IfOk result.result (λ status. IsServed (files_of (F.content (opener_of files.entry)) (bytes_left F.content F.File.remaining (device_of result.files))) (map string_bytes words.items)
-        (stage (streams_of R.remaining O.contents E.contents input.old output.old errors.old) (started_in counts))
-        (stage (streams_of R.remaining O.contents E.contents input.new output.new errors.new) (started_in result.counts)) status) }
-    ensures stopped { IfErr result.result (λ fault. IsStopped fault (files_of (F.content (opener_of files.entry)) (bytes_left F.content F.File.remaining (device_of result.files))) (map string_bytes words.items)
-        (stage (streams_of R.remaining O.contents E.contents input.old output.old errors.old) (started_in counts))
-        (stage (streams_of R.remaining O.contents E.contents input.new output.new errors.new) (started_in result.counts))) }
+    ensures served { OnFilesStatus F.Opener F.File.Read R.Read O.Write E.Write files.entry counts input.old output.old errors.old result input.new output.new errors.new
+        (AreWordsServed words.items) }
+    ensures stopped { OnFilesFault F.Opener F.File.Read R.Read O.Write E.Write files.entry counts input.old output.old errors.old result input.new output.new errors.new
+        (AreWordsStopped words.items) }
     ensures blamed { IfErr result.result (λ fault. IsBlamed fault (failures 0 input.old output.old errors.old) (failures (failures_of result.files) input.new output.new errors.new)) }
     ensures unread { ¬ (WordsNeedInput (map string_bytes words.items)) → input.new ≡ input.old }
 {

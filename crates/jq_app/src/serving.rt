@@ -1,13 +1,11 @@
 // What the command does with its configuration.
-ghost use Rattle.std.specs.Prelude.{◌≡◌, IfErr, IfOk};
+ghost use Rattle.std.specs.Prelude.{◌≡◌, IfErr};
 ghost use Rattle.jq_cli.specs.Configuration.{shown};
-ghost use Rattle.jq_devices.specs.Files.{bytes_left, opener_of};
-ghost use Rattle.jq_devices.specs.Watched.{device_of, failures_of};
-ghost use Rattle.jq_stream.specs.Streams.{streams_of};
+ghost use Rattle.jq_devices.specs.Watched.{failures_of};
 ghost use Rattle.jq_app.specs.Blaming.{IsBlamed, failures};
-ghost use Rattle.jq_app.specs.Served.{IsConfigurationDone, ReadsInput};
-ghost use Rattle.jq_app.specs.Stages.{files_of, stage, started_in};
-ghost use Rattle.jq_app.specs.Stopped.{IsConfigurationStopped};
+ghost use Rattle.jq_app.specs.Served.{ReadsInput};
+ghost use Rattle.jq_app.specs.private.Calls.{OnFilesFault, OnFilesStatus};
+ghost use Rattle.jq_app.specs.private.Commands.{IsConfigDone, IsConfigStopped};
 
 use crate::counts::Counts;
 use crate::sessions::run_session;
@@ -35,12 +33,10 @@ pub(crate) fn run_config<'a, F: Opener, R: Read, O: Write, E: Write>(
     output: &mut Watched<O>,
     errors: &mut Watched<E>,
 ) -> Ended<'a, F>
-    ensures done { IfOk result.result (λ status. IsConfigurationDone (files_of (F.content (opener_of files.entry)) (bytes_left F.content F.File.remaining (device_of result.files))) (shown config)
-        (stage (streams_of R.remaining O.contents E.contents input.old output.old errors.old) (started_in counts))
-        (stage (streams_of R.remaining O.contents E.contents input.new output.new errors.new) (started_in result.counts)) status) }
-    ensures stopped { IfErr result.result (λ fault. IsConfigurationStopped fault (files_of (F.content (opener_of files.entry)) (bytes_left F.content F.File.remaining (device_of result.files))) (shown config)
-        (stage (streams_of R.remaining O.contents E.contents input.old output.old errors.old) (started_in counts))
-        (stage (streams_of R.remaining O.contents E.contents input.new output.new errors.new) (started_in result.counts))) }
+    ensures done { OnFilesStatus F.Opener F.File.Read R.Read O.Write E.Write files.entry counts input.old output.old errors.old result input.new output.new errors.new
+        (IsConfigDone config) }
+    ensures stopped { OnFilesFault F.Opener F.File.Read R.Read O.Write E.Write files.entry counts input.old output.old errors.old result input.new output.new errors.new
+        (IsConfigStopped config) }
     ensures blamed { IfErr result.result (λ fault. IsBlamed fault (failures 0 input.old output.old errors.old) (failures (failures_of result.files) input.new output.new errors.new)) }
     ensures unread { ¬ (ReadsInput (shown config)) → input.new ≡ input.old }
 {

@@ -1,22 +1,18 @@
 // What the command does if its words ask for a session.
-ghost use Rattle.std.specs.Prelude.{◌≡◌, ◌≢◌, ℕ, List, Ok, Err, IfErr, IfOk, OnOk, map};
+ghost use Rattle.std.specs.Prelude.{◌≡◌, ◌≢◌, ℕ, Ok, Err, IfErr, IfOk, OnOk};
 ghost use Rattle.std.specs.Str.{chars};
-ghost use Rattle.std.specs.declared.option.Option.{Option};
-ghost use Rattle.jv_data.specs.View.{view};
 ghost use Rattle.jq_devices.specs.Watched.{HasFailed, device_of, failures_of};
 ghost use Rattle.jq_devices.specs.declared.faults.StreamFault.TheVariants.{Read as ReadFault, Write as WriteFault, NoMemory as MemoryFault};
-ghost use Rattle.jq_script.specs.Serving.{point_of, serving};
 ghost use Rattle.jq_session.specs.declared.refusals.Refusal.TheVariants as refusals;
-ghost use Rattle.jq_stream.specs.Streams.{streams_of};
-ghost use Rattle.jq_syntax.specs.Chosen.{Chosen, chosen, setting_of};
+ghost use Rattle.jq_syntax.specs.Chosen.{chosen, setting_of};
 ghost use Rattle.jq_syntax.specs.Compiled.{IsRefusal};
 ghost use Rattle.jq_filters.specs.Filters.{IsFilterOf};
 ghost use Rattle.jq_app.specs.Blaming.{IsBlamed, failures};
-ghost use Rattle.jq_app.specs.Sessions.{IsAccepted, IsSessionDone, IsSessionStopped, too_many};
-ghost use Rattle.jq_app.specs.Stages.{stage, started_in};
+ghost use Rattle.jq_app.specs.Sessions.{IsAccepted, too_many};
 ghost use Rattle.jq_run.specs.Reports.{IsReport};
-ghost use Rattle.jq_app.specs.private.Served.{IsAnswered, IsCutOff};
-ghost use Rattle.jq_app.specs.private.Texts.{HaveTexts};
+ghost use Rattle.jq_app.specs.private.Calls.{OnFault, OnStatus};
+ghost use Rattle.jq_app.specs.private.Served.{IsAnswered, IsCutOff, OnServing};
+ghost use Rattle.jq_app.specs.private.Sessions.{IsFilterSessionDone, IsFilterSessionStopped, IsSessionOverTextsDone, IsSessionOverTextsStopped, IsTextSessionDone, IsTextSessionStopped};
 
 use crate::counts::Counts;
 use crate::refusals::refuse_inputs;
@@ -44,12 +40,10 @@ pub(crate) fn run_session<I: Read, R: Read, O: Write, E: Write>(
     output: &mut Watched<O>,
     errors: &mut Watched<E>,
 ) -> (Result<u8, StreamFault>, Counts)
-    ensures done { IfOk result.0 (λ status. IsSessionDone (I.remaining (device_of files.old)) follow (chosen options) (chars filter.now)
-        (stage (streams_of R.remaining O.contents E.contents input.old output.old errors.old) (started_in counts))
-        (stage (streams_of R.remaining O.contents E.contents input.new output.new errors.new) (started_in result.1)) status) }
-    ensures stopped { IfErr result.0 (λ fault. IsSessionStopped fault (I.remaining (device_of files.old)) follow (chosen options) (chars filter.now)
-        (stage (streams_of R.remaining O.contents E.contents input.old output.old errors.old) (started_in counts))
-        (stage (streams_of R.remaining O.contents E.contents input.new output.new errors.new) (started_in result.1))) }
+    ensures done { OnStatus R.Read O.Write E.Write counts input.old output.old errors.old result input.new output.new errors.new
+        (IsTextSessionDone I.remaining files.old follow options filter.now) }
+    ensures stopped { OnFault R.Read O.Write E.Write counts input.old output.old errors.old result input.new output.new errors.new
+        (IsTextSessionStopped I.remaining files.old follow options filter.now) }
     ensures blamed { IfErr result.0 (λ fault. IsBlamed fault (failures (failures_of files.old) input.old output.old errors.old) (failures (failures_of files.new) input.new output.new errors.new)) }
     ensures unread { ¬ (IsAccepted (chosen options) (chars filter.now)) → input.new ≡ input.old }
 {
@@ -95,12 +89,10 @@ fn serve_filter<I: Read, R: Read, O: Write, E: Write>(
     output: &mut Watched<O>,
     errors: &mut Watched<E>,
 ) -> (Result<u8, StreamFault>, Counts)
-    ensures done { IfOk result.0 (λ status. (o : Chosen) (text : List ℕ) → IsFilterOf o text filter → chosen options ≡ o → IsSessionDone (I.remaining (device_of files.old)) follow o text
-        (stage (streams_of R.remaining O.contents E.contents input.old output.old errors.old) (started_in counts))
-        (stage (streams_of R.remaining O.contents E.contents input.new output.new errors.new) (started_in result.1)) status) }
-    ensures stopped { IfErr result.0 (λ fault. (o : Chosen) (text : List ℕ) → IsFilterOf o text filter → chosen options ≡ o → IsSessionStopped fault (I.remaining (device_of files.old)) follow o text
-        (stage (streams_of R.remaining O.contents E.contents input.old output.old errors.old) (started_in counts))
-        (stage (streams_of R.remaining O.contents E.contents input.new output.new errors.new) (started_in result.1))) }
+    ensures done { OnStatus R.Read O.Write E.Write counts input.old output.old errors.old result input.new output.new errors.new
+        (IsFilterSessionDone I.remaining files.old follow options filter) }
+    ensures stopped { OnFault R.Read O.Write E.Write counts input.old output.old errors.old result input.new output.new errors.new
+        (IsFilterSessionStopped I.remaining files.old follow options filter) }
     ensures blamed { IfErr result.0 (λ fault. IsBlamed fault (failures (failures_of files.old) input.old output.old errors.old) (failures (failures_of files.new) input.new output.new errors.new)) }
 {
     match read_texts(alloc, files) {
@@ -123,12 +115,10 @@ fn serve_texts<R: Read, O: Write, E: Write>(
     output: &mut Watched<O>,
     errors: &mut Watched<E>,
 ) -> (Result<u8, StreamFault>, Counts)
-    ensures done { IfOk result.0 (λ status. (files : Option (List ℕ)) (o : Chosen) (text : List ℕ) → HaveTexts files (map view texts.values.items) texts.fault → IsFilterOf o text filter → chosen options ≡ o
-        → IsSessionDone files follow o text (stage (streams_of R.remaining O.contents E.contents input.old output.old errors.old) (started_in counts))
-        (stage (streams_of R.remaining O.contents E.contents input.new output.new errors.new) (started_in result.1)) status) }
-    ensures stopped { IfErr result.0 (λ fault. (files : Option (List ℕ)) (o : Chosen) (text : List ℕ) → HaveTexts files (map view texts.values.items) texts.fault → IsFilterOf o text filter → chosen options ≡ o
-        → IsSessionStopped fault files follow o text (stage (streams_of R.remaining O.contents E.contents input.old output.old errors.old) (started_in counts))
-        (stage (streams_of R.remaining O.contents E.contents input.new output.new errors.new) (started_in result.1))) }
+    ensures done { OnStatus R.Read O.Write E.Write counts input.old output.old errors.old result input.new output.new errors.new
+        (IsSessionOverTextsDone texts follow options filter) }
+    ensures stopped { OnFault R.Read O.Write E.Write counts input.old output.old errors.old result input.new output.new errors.new
+        (IsSessionOverTextsStopped texts follow options filter) }
     ensures blamed { IfErr result.0 (λ fault. (files : ℕ) → IsBlamed fault (failures files input.old output.old errors.old) (failures files input.new output.new errors.new)) }
 {
     let InputTexts { values, fault } = texts;
@@ -157,10 +147,8 @@ fn serve_host<R: Read, O: Write>(
     input: &mut Watched<R>,
     output: &mut Watched<O>,
 ) -> (Result<u8, StreamFault>, Counts)
-    ensures served { IfOk result.0 (λ status. IsAnswered follow status (serving (R.remaining (device_of input.old)) (O.contents (device_of output.old)) (point_of host))
-        (R.remaining (device_of input.new)) (O.contents (device_of output.new)) (started_in result.1)) }
-    ensures stopped { IfErr result.0 (λ fault. IsCutOff follow fault (serving (R.remaining (device_of input.old)) (O.contents (device_of output.old)) (point_of host))
-        (R.remaining (device_of input.new)) (O.contents (device_of output.new)) (started_in result.1)) }
+    ensures served { IfOk result.0 (λ status. OnServing R.remaining O.contents host input.old output.old result.1 input.new output.new (IsAnswered follow status)) }
+    ensures stopped { IfErr result.0 (λ fault. OnServing R.remaining O.contents host input.old output.old result.1 input.new output.new (IsCutOff follow fault)) }
     ensures read_failed { IfErr result.0 (λ fault. fault ≡ ReadFault → HasFailed (failures_of input.old) (failures_of input.new)) }
     ensures write_failed { IfErr result.0 (λ fault. fault ≡ WriteFault → HasFailed (failures_of output.old) (failures_of output.new)) }
 {

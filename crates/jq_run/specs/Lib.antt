@@ -1,2 +1,4 @@
+pub mod Streams
 pub mod Filters
+pub mod Runs
 pub mod Reports

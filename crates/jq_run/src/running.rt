@@ -5,9 +5,10 @@ ghost use Rattle.jq_devices.specs.Watched.{HasFailed, failures_of};
 ghost use Rattle.jq_devices.specs.declared.faults.StreamFault.TheVariants.{Read as ReadFault, Write as WriteFault};
 ghost use Rattle.jq_filters.specs.Filters.{IsFilterOf};
 ghost use Rattle.jq_stream.specs.Failures.{AnOutputHasFailed, output_failures};
-ghost use Rattle.jq_stream.specs.Streams.{streams_of};
+ghost use Rattle.jq_run.specs.Streams.{OnStreams};
 ghost use Rattle.jq_syntax.specs.Chosen.{Chosen, chosen};
-ghost use Rattle.jq_run.specs.Filters.{FilterNeedsInput, HasRun, HasStopped, IsFilterDone, IsFilterStopped};
+ghost use Rattle.jq_run.specs.Filters.{FilterNeedsInput};
+ghost use Rattle.jq_run.specs.Runs.{HasRunCompiled, HasStoppedCompiled, IsTextDone, IsTextStopped};
 
 use crate::refusals::refuse_filter;
 use jq_devices::{Read, StreamFault, Watched, Write};
@@ -28,10 +29,10 @@ pub fn run_filter<R: Read, O: Write, E: Write>(
     output: &mut Watched<O>,
     errors: &mut Watched<E>,
 ) -> Result<u8, StreamFault>
-    ensures done { IfOk result (λ status. IsFilterDone (chosen options) (chars filter.now)
-        (streams_of R.remaining O.contents E.contents input.old output.old errors.old) (streams_of R.remaining O.contents E.contents input.new output.new errors.new) status) }
-    ensures stopped { IfErr result (λ fault. IsFilterStopped fault (chosen options) (chars filter.now)
-        (streams_of R.remaining O.contents E.contents input.old output.old errors.old) (streams_of R.remaining O.contents E.contents input.new output.new errors.new)) }
+    ensures done { IfOk result (λ status. OnStreams R.remaining O.contents E.contents input.old output.old errors.old input.new output.new errors.new
+        (IsTextDone options filter.now status)) }
+    ensures stopped { IfErr result (λ fault. OnStreams R.remaining O.contents E.contents input.old output.old errors.old input.new output.new errors.new
+        (IsTextStopped options filter.now fault)) }
     ensures read_failed { IfErr result (λ fault. fault ≡ ReadFault → HasFailed (failures_of input.old) (failures_of input.new)) }
     ensures write_failed { IfErr result (λ fault. fault ≡ WriteFault → AnOutputHasFailed (output_failures output.old errors.old) (output_failures output.new errors.new)) }
     ensures unread { ¬ (FilterNeedsInput (chosen options) (chars filter.now)) → input.new ≡ input.old }
@@ -52,10 +53,10 @@ pub fn run_compiled<R: Read, O: Write, E: Write>(
     output: &mut Watched<O>,
     errors: &mut Watched<E>,
 ) -> Result<u8, StreamFault>
-    ensures ran { IfOk result (λ status. (o : Chosen) (text : List ℕ) → IsFilterOf o text filter.now → HasRun o text
-        (streams_of R.remaining O.contents E.contents input.old output.old errors.old) (streams_of R.remaining O.contents E.contents input.new output.new errors.new) status) }
-    ensures stopped { IfErr result (λ fault. (o : Chosen) (text : List ℕ) → IsFilterOf o text filter.now → HasStopped fault o text
-        (streams_of R.remaining O.contents E.contents input.old output.old errors.old) (streams_of R.remaining O.contents E.contents input.new output.new errors.new)) }
+    ensures ran { IfOk result (λ status. OnStreams R.remaining O.contents E.contents input.old output.old errors.old input.new output.new errors.new
+        (HasRunCompiled filter.now status)) }
+    ensures stopped { IfErr result (λ fault. OnStreams R.remaining O.contents E.contents input.old output.old errors.old input.new output.new errors.new
+        (HasStoppedCompiled filter.now fault)) }
     ensures read_failed { IfErr result (λ fault. fault ≡ ReadFault → HasFailed (failures_of input.old) (failures_of input.new)) }
     ensures write_failed { IfErr result (λ fault. fault ≡ WriteFault → AnOutputHasFailed (output_failures output.old errors.old) (output_failures output.new errors.new)) }
     ensures unread { (o : Chosen) (text : List ℕ) → IsFilterOf o text filter.now → ¬ (FilterNeedsInput o text) → input.new ≡ input.old }
