@@ -1,4 +1,3 @@
-pub mod Streams
 pub mod Filters
 pub mod Runs
 pub mod Reports

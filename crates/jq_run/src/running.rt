@@ -5,7 +5,7 @@ ghost use Rattle.jq_devices.specs.Watched.{HasFailed, failures_of};
 ghost use Rattle.jq_devices.specs.declared.faults.StreamFault.TheVariants.{Read as ReadFault, Write as WriteFault};
 ghost use Rattle.jq_filters.specs.Filters.{IsFilterOf};
 ghost use Rattle.jq_stream.specs.Failures.{AnOutputHasFailed, output_failures};
-ghost use Rattle.jq_run.specs.Streams.{OnStreams};
+ghost use Rattle.jq_stream.specs.Streams.{OnStreams};
 ghost use Rattle.jq_syntax.specs.Chosen.{Chosen, chosen};
 ghost use Rattle.jq_run.specs.Filters.{FilterNeedsInput};
 ghost use Rattle.jq_run.specs.Runs.{HasRunCompiled, HasStoppedCompiled, IsTextDone, IsTextStopped};
