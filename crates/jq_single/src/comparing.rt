@@ -1,5 +1,5 @@
 // Comparisons of the input, or of the name of its kind, with a constant. Nothing is copied for them.
-ghost use Rattle.std.specs.Prelude.{◌≡◌, codes, IfSome, IsTrue, Ok};
+ghost use Rattle.std.specs.Prelude.{◌≡◌, codes, IfSome, IsTrue, List, Ok};
 ghost use Rattle.jv_data.specs.Kind.{kind_name};
 ghost use Rattle.jv_data.specs.Shared.{text_in};
 ghost use Rattle.jv_data.specs.View.{view};
@@ -10,16 +10,20 @@ ghost use Rattle.jq_ast.specs.Named.{name_of, named};
 ghost use Rattle.jq_tree.specs.Tree as form;
 ghost use Rattle.jq_meaning.specs.Continuations.{value_of_literal};
 ghost use Rattle.jq_meaning.specs.Env as meaning;
+ghost use Rattle.jq_meaning.specs.Env.{Env};
 ghost use Rattle.jq_meaning.specs.Runs.{Run};
 ghost use Rattle.jq_meaning.specs.Steps as steps;
 ghost use Rattle.jq_natives.specs.Answers.{is_same, yes_or_no};
+ghost use Rattle.jq_operations.specs.Callees.{callee_in};
 ghost use Rattle.jq_single.specs.private.Parts.{RunsTo};
 ghost use Rattle.jq_single.specs.private.Scopes.{scope_env};
 
 use crate::contexts::Context;
-use crate::finding::{Found, callee_of};
+use crate::finding::argument_of;
 use crate::scopes::Scope;
 use jq_ast::{Literal, Name, Operator, Tree};
+use jq_operations::{Callee, find_callee};
+use jq_state::names::is_function;
 use jv_data::{SharedText, Val, kind_name, order};
 
 impl<'s> Context<'s> {
@@ -97,8 +101,32 @@ fn is_type(scope: &Scope<'_>, name: &Name) -> bool
 fn is_unbound(scope: &Scope<'_>, name: &Name) -> bool
     ensures { IsTrue result → (inputs : Run Value) → meaning.find_callee (name_of name.now) 0 (scope_env inputs scope.now) ≡ meaning.no_callee }
 {
-    match callee_of(scope, name, 0) {
-        Found::Nothing => true,
+    match scope {
+        Scope::Run(outside) => is_free(find_callee(outside.nodes, name, 0, outside.env)),
+        Scope::Value(outer, _, _) => is_unbound(outer, name),
+        Scope::Function(outer, function) => {
+            if is_function(function, name, 0) {
+                false
+            } else {
+                is_unbound(outer, name)
+            }
+        }
+        Scope::Call(own, function, arguments, _) => {
+            let parameters = function.parameters.as_slice();
+            match argument_of(parameters, arguments.as_slice(), name, None) {
+                Some(_) => false,
+                None => is_unbound(own, name),
+            }
+        }
+    }
+}
+
+// That a call finds nothing.
+fn is_free(callee: Callee<'_>) -> bool
+    ensures { IsTrue result → (envs : List Env) → callee_in envs callee.entry ≡ meaning.no_callee }
+{
+    match callee {
+        Callee::NoCallee => true,
         _ => false,
     }
 }

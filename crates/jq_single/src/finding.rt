@@ -56,8 +56,8 @@ pub(crate) fn callee_of<'s>(scope: &Scope<'s>, name: &Name, count: usize) -> Fou
     }
 }
 
-// The argument for the last parameter with this name, or else what was found before.
-fn argument_of<'s>(
+/// The argument for the last parameter with this name, or else what was found before.
+pub(crate) fn argument_of<'s>(
     parameters: &[String],
     arguments: &'s [Tree],
     name: &Name,
