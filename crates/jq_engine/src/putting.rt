@@ -9,6 +9,7 @@ ghost use Rattle.jq_machine.specs.State as abstract;
 ghost use Rattle.jq_state.specs.Environments.{count_of};
 ghost use Rattle.jq_state.specs.Items.{item_of};
 ghost use Rattle.jq_state.specs.Steps.{step_in};
+ghost use Rattle.jq_state.specs.Views.{frames_in, IsFirst};
 ghost use Rattle.jq_shapes.specs.Names.{HasPut};
 ghost use Rattle.jq_tree.specs.Tree as form;
 ghost use Rattle.jq_shapes.specs.Turn.{changed};
@@ -44,8 +45,53 @@ pub(crate) struct UpdateEnd {
     pub(crate) around: Around,
 }
 
-/// An item goes to the first frame that waits; with none it is an output.
+/// An item goes to the first frame that waits; with none it is an output. The frame of an array is not taken: the array's fork
+/// point may need it again, and the run goes back next.
 pub(crate) fn hand_on<'p>(
+    alloc: Global,
+    state: &mut State<'p>,
+    item: Item,
+) -> Result<Progress<'p>, NoMemory>
+    ensures { IfOk result (λ r. (inputs : Run Value) → Leads inputs (at_item inputs state.old (item_of item)) state.new r) }
+{
+    match collecting(state) {
+        Some(height) => collect(state, height, item),
+        None => hand_to_frame(alloc, state, item),
+    }
+}
+
+// The height of the array that gets the next item, if it goes to an array.
+fn collecting(state: &State<'_>) -> Option<u32>
+    ensures { IfSome result (λ h. (inputs : Run Value) → IsFirst (abstract.collect h) (frames_in inputs state.now)) }
+{
+    let (step, _) = state.top()?;
+    collect_in(step)
+}
+
+// The height of an array.
+fn collect_in(step: &Step<'_>) -> Option<u32>
+    ensures { IfSome result (λ h. (q : abstract.Scope) → step_in step.now q ≡ abstract.collect h) }
+{
+    match step {
+        Step::Holding(Holding::Collect(height)) => Some(*height),
+        _ => None,
+    }
+}
+
+// The value of an item is added to an array.
+fn collect<'p>(state: &mut State<'p>, height: u32, item: Item) -> Result<Progress<'p>, NoMemory>
+    requires { (inputs : Run Value) → IsFirst (abstract.collect height) (frames_in inputs state.old) }
+    ensures { IfOk result (λ r. (inputs : Run Value) → Leads inputs (at_item inputs state.old (item_of item)) state.new r) }
+{
+    let Item { value, path } = item;
+    drop(path);
+    state.skip();
+    state.add_to_cell(height, Item::plain(value))?;
+    Ok(Progress::Moves(Next::GoBack))
+}
+
+// The same for another frame.
+fn hand_to_frame<'p>(
     alloc: Global,
     state: &mut State<'p>,
     item: Item,

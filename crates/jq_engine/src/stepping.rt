@@ -53,8 +53,8 @@ pub(crate) fn step<'p>(
     }
 }
 
-// An item goes to the first frame that waits. If that is a fold with one variable, its update may run at once.
-fn deliver<'p>(
+/// An item goes to the first frame that waits. If that is a fold with one variable, its update may run at once.
+pub(crate) fn deliver<'p>(
     alloc: Global,
     state: &mut State<'p>,
     item: Item,

@@ -11,7 +11,8 @@ ghost use Rattle.jq_state.specs.Inputs.{inputs_of};
 ghost use Rattle.jq_state.specs.Items.{item_of};
 ghost use Rattle.jq_engine.specs.private.Forms.{chosen};
 ghost use Rattle.jq_engine.specs.private.Leading.{Leads, at_filter};
-ghost use Rattle.jq_engine.specs.private.Tails.{Follows};
+ghost use Rattle.jq_state.specs.Nexts.{NextFits, stands};
+ghost use Rattle.jq_engine.specs.private.Tails.{Follows, FollowsAfter};
 
 use crate::at_once::{change, run_at_once};
 use crate::bodies::called_body;
@@ -19,6 +20,7 @@ use crate::guards::Guard;
 use crate::parts::{begin_binding, stopped, wait};
 use crate::passing::go_back;
 use crate::putting::{end_without_part, kept_turn};
+use crate::stepping::deliver;
 use jq_ast::Tree;
 use jq_backtracking::Progress;
 use jq_evaluate::enter;
@@ -192,11 +194,11 @@ fn first_tail<'p>(
             )?;
             Ok(Tail::Progress(progress))
         }
-        _ => other_tail(alloc, state, tree, scope, input, inputs),
+        _ => other_tail(alloc, state, tree, scope, input, inputs, guard),
     }
 }
 
-// The body of a called function or parameter; of another filter the first transition.
+// The body of a called function or parameter; of another filter what follows its first transition.
 #[inline(always)]
 fn other_tail<'p>(
     alloc: Global,
@@ -205,6 +207,7 @@ fn other_tail<'p>(
     scope: Scope,
     input: &mut Item,
     inputs: &Inputs,
+    guard: &mut Guard,
 ) -> Result<Tail<'p>, NoMemory>
     requires { scope.env < count_of state.old.nodes }
     ensures { IfOk result (Follows (inputs_of inputs.now) (at_filter (inputs_of inputs.now) state.old (named tree.now) scope (item_of input.old)) state.new input.new) }
@@ -213,7 +216,34 @@ fn other_tail<'p>(
         return Ok(Tail::Filter(body, inside));
     }
     let next = enter(alloc, state, tree, scope, taken(input), inputs)?;
-    Ok(Tail::Progress(Progress::Moves(next)))
+    later_tail(alloc, state, next, input, inputs, guard)
+}
+
+// What follows a transition: a filter is evaluated in the same step, and an item goes to the frame that waits for it.
+#[inline(always)]
+fn later_tail<'p>(
+    alloc: Global,
+    state: &mut State<'p>,
+    next: Next<'p>,
+    input: &mut Item,
+    inputs: &Inputs,
+    guard: &mut Guard,
+) -> Result<Tail<'p>, NoMemory>
+    requires { NextFits (count_of state.old.nodes) next }
+    ensures { IfOk result (FollowsAfter (inputs_of inputs.now) (stands (inputs_of inputs.now) state.old next.entry) state.new input.new) }
+{
+    match next {
+        Next::Evaluate(later, inside, item) => {
+            *input = item;
+            Ok(Tail::Filter(later, inside))
+        }
+        Next::Give(item) => {
+            guard.earn();
+            let progress = deliver(alloc, state, item, inputs, guard)?;
+            Ok(Tail::Progress(progress))
+        }
+        other => Ok(Tail::Progress(Progress::Moves(other))),
+    }
 }
 
 // `f | g`.
@@ -232,9 +262,8 @@ fn pipe_tail<'p>(
     ensures { IfOk result (Follows (inputs_of inputs.now) (at_filter (inputs_of inputs.now) state.old (form.pipe (named first.now) (named second.now)) scope (item_of input.old)) state.new input.new) }
 {
     if !guard.tries(first, &*input) {
-        let step = Step::Combining(Combining::PipeInto(second));
-        let progress = wait(state, first, step, scope, taken(input))?;
-        return Ok(Tail::Progress(progress));
+        state.push(Step::Combining(Combining::PipeInto(second)), scope)?;
+        return Ok(Tail::Filter(first, scope));
     }
     match change(alloc, state.nodes(), first, scope, &mut input.value) {
         Ok(()) => {

@@ -24,3 +24,7 @@ pub record Arrives (before goal : machine.State) : Type 0 where
 abbrev pub Follows : Run Value → (before : machine.State) → State → Item → Tail → Type 0
 Follows inputs before s x (tail.Filter t p) = (p.env < count_of s.nodes) × Arrives before (at_filter inputs s (named t.now) p (item_of x))
 Follows inputs before s x (tail.Progress r) = Leads inputs before s r
+
+-- The same for each state that a transition leads to this one.
+abbrev pub FollowsAfter : Run Value → (goal : machine.State) → State → Item → Tail → Type 0
+FollowsAfter inputs goal s x r = (before : machine.State) → step before ≡ moves goal → Follows inputs before s x r

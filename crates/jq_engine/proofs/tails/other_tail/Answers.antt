@@ -1,4 +1,5 @@
-use Rattle.std.proofs.Common.{◌≡◌, ◌<◌, sym, ap, subst}
+use Rattle.std.proofs.Common.{◌≡◌, ◌∙◌, ◌<◌, sym, ap, subst}
+use Rattle.std.proofs.lemmas.Result.{IfOk-weaker}
 use Rattle.jq_ast.specs.Named.{named}
 use Rattle.jq_machine.specs.Evaluating.{enter}
 use Rattle.jq_machine.specs.Machine.{step}
@@ -12,7 +13,6 @@ use Rattle.jq_state.specs.Views.{frames_in, forks_in}
 use Rattle.jq_state.specs.declared.environments.Nodes.{Nodes}
 use Rattle.jq_state.specs.declared.items.Item as items
 use Rattle.jq_engine.specs.private.Leading.{at_filter, here}
-use Rattle.jq_engine.proofs.Leading.{leads_to}
 use Rattle.jq_engine.proofs.tails.other_tail.Goals as goal
 
 pub returns-in-Some : goal.returns-in-Some
@@ -38,4 +38,4 @@ pub returns : goal.returns
 returns c =
     let inputs = inputs_of c.args.inputs.now in
     let at : items.Item → machine.State = λ z. at_filter inputs c.args.state.now (named c.args.tree.now) c.args.scope (item_of z) in
-    leads_to inputs (at c.args.input.now) _ c.enter.new.state c.in_ok-next.next (ap (λ z. step (at z)) (sym c.taken.ensures)) c.in_ok-next.ensures
+    IfOk-weaker c.later_tail.result _ _ (λ r g. g (at c.args.input.now) (ap (λ z. step (at z)) (sym c.taken.ensures) ∙ ap moves (sym c.in_ok-next.ensures.1))) c.later_tail.ensures

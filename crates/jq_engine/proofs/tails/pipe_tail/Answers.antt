@@ -1,14 +1,12 @@
-use Rattle.std.proofs.Common.{◌≡◌, ◌∷◌, refl, sym, ap, subst}
+use Rattle.std.proofs.Common.{◌≡◌, ◌∷◌, ◌<◌, refl, sym, ap, subst}
 use Rattle.jv_data.specs.View.{view}
 use Rattle.jq_ast.specs.Named.{named}
 use Rattle.jq_tree.specs.Tree.{pipe}
 use Rattle.jq_meaning.specs.Meaning.{meaning}
 use Rattle.jq_meaning.specs.Runs.{Item, plain, one}
-use Rattle.jq_machine.specs.Machine.{step}
-use Rattle.jq_machine.specs.State as machine
-use Rattle.jq_machine.specs.State.{pipe_into, state, give}
+use Rattle.jq_machine.specs.State.{pipe_into, state, give, moves}
 use Rattle.jq_single.specs.Single.{Ends, Leaves}
-use Rattle.jq_state.specs.Environments.{envs_of}
+use Rattle.jq_state.specs.Environments.{count_of, envs_of}
 use Rattle.jq_state.specs.Inputs.{inputs_of}
 use Rattle.jq_state.specs.Items.{item_of}
 use Rattle.jq_state.specs.Links.{scope_in}
@@ -17,6 +15,7 @@ use Rattle.jq_state.specs.Views.{envs_in, frames_in, forks_in}
 use Rattle.jq_state.specs.declared.environments.Nodes.{Nodes}
 use Rattle.jq_state.specs.declared.items.Item as items
 use Rattle.jq_state.proofs.shared.Items.{absent}
+use Rattle.jq_state.proofs.shared.Transitions.{evaluates}
 use Rattle.jq_engine.specs.private.Leading.{HasStopped, Leads, at_filter, gives, here, by_transition, by_run}
 use Rattle.jq_engine.specs.private.Tails.{Arrives}
 use Rattle.jq_engine.proofs.tails.pipe_tail.Goals as goal
@@ -24,9 +23,17 @@ use Rattle.jq_engine.proofs.tails.pipe_tail.Goals as goal
 pub returns-then-not-tries : goal.returns-then-not-tries
 returns-then-not-tries c =
     let inputs = inputs_of c.args.inputs.now in
-    let f = pipe (named c.args.first.now) (named c.args.second.now) in
-    let at : items.Item → machine.State = λ z. at_filter inputs c.args.state.now f c.args.scope (item_of z) in
-    c.in_ok-progress.ensures inputs (at c.args.input.now) (ap (λ z. step (at z)) (sym c.taken.ensures))
+    let s = c.args.state.now in
+    let q = c.args.scope in
+    let x = item_of c.args.input.now in
+    let pushed = c.in_ok-push.ensures in (
+      subst (λ ns. q.env < count_of ns) (sym pushed.envs) c.requires,
+      record {
+        from = at_filter inputs s (pipe (named c.args.first.now) (named c.args.second.now)) q x;
+        advances = here;
+        steps = ap moves (evaluates s c.push.new.self (named c.args.first.now) q inputs pushed.envs refl (pushed.frames inputs) (pushed.forks inputs));
+      },
+    )
 
 pub returns-in-Ok : goal.returns-in-Ok
 returns-in-Ok c =

@@ -9,7 +9,7 @@ use Rattle.jq_state.specs.Views.{envs_in, frames_in, forks_in}
 use Rattle.jq_engine.specs.private.Leading.{here}
 use Rattle.jq_engine.proofs.Leading.{leads_at}
 use Rattle.jq_engine.proofs.Transitions.{hands_out}
-use Rattle.jq_engine.proofs.putting.hand_on.Goals as goal
+use Rattle.jq_engine.proofs.putting.hand_to_frame.Goals as goal
 
 pub returns-in-Some : goal.returns-in-Some
 returns-in-Some c =
