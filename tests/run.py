@@ -3,7 +3,7 @@
 
 They are the cases of tests/*.toml, the examples of the documents, and the scripts of examples/. With the gate, or where
 no files are named, tests/documents.py, tests/program.py, tests/live.py, tests/memory.py, tests/hostile.py,
-tests/release.py and tests/pages.py follow. With the gate alone tests/growth.py runs the test crates that it built.
+tests/release.py, tests/pages.py and tests/contracts.py follow. With the gate alone tests/growth.py runs the test crates that it built.
 
 A file holds an array of tables [[case]]:
 
@@ -48,7 +48,7 @@ KEYS = {"name", "args", "args_hex", "files", "status", "closed"} | {
 }
 SECONDS = 120
 DOCUMENTS = ("README.md", "docs/MANUAL.md", "docs/SESSION.md", "docs/DIFFERENCES.md", "docs/FROM_JQ.md", "docs/LONG_RUNS.md")
-PROGRAMS = ("documents.py", "program.py", "live.py", "memory.py", "hostile.py", "release.py", "pages.py")
+PROGRAMS = ("documents.py", "program.py", "live.py", "memory.py", "hostile.py", "release.py", "pages.py", "contracts.py")
 
 
 def stream_of(case, stream):
