@@ -51,4 +51,3 @@ kind_told p op t n l v None e f g h = tt
 kind_told p op t n l v (Some b) e f g h = λ inputs level.
     ap (λ z. run p inputs level (binary op z (literal l)) (plain v)) e
     ∙ told p inputs level op (call n no_trees) l v (string (kind_name v)) b (kind_run p inputs level n v f (g inputs)) h ∙ ap (λ (w : Value). one (plain w)) (sym (view-Bool b))
-
