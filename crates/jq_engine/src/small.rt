@@ -10,7 +10,8 @@ pub(crate) fn is_tried(tree: &Tree) -> bool {
         Tree::Alternative(_, _) => true,
         Tree::Choice(_, _, _) => true,
         Tree::TryCatch(body, _) => is_reading(body),
-        Tree::Pipe(first, _) => is_reading(first),
+        Tree::Pipe(first, second) => is_reading(first) && !is_turn(second),
+        Tree::Update(_, _) => true,
         Tree::BindAs(_, pattern, _) => is_whole(pattern) || is_turn(tree),
         Tree::Call(name, _) => may_run(name),
         _ => is_reading(tree),
@@ -27,7 +28,7 @@ fn is_value(tree: &Tree) -> bool {
     }
 }
 
-// Whether a filter may be a turn of an update: `. as [$x, $d] | ..`.
+// Whether a filter may be a turn of an update, or the end of one: `. as [$x, $d] | ..`.
 fn is_turn(tree: &Tree) -> bool {
     match tree {
         Tree::BindAs(source, pattern, _) => is_value(source) && is_pair(pattern),

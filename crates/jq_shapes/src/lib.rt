@@ -15,4 +15,4 @@ pub use ends::{Keep, Put, keep_in, put_in};
 pub use leaves::is_part_pattern;
 pub use readings::{copies, goes_over_all, is_cheap, is_items, is_reading, pays_for_copy};
 pub use turns::{Source, TurnNames, turn_in};
-pub use updates::{Update, is_update, update_in};
+pub use updates::{Update, update_in};

@@ -45,11 +45,6 @@ pub fn update_in(tree: &Tree) -> Option<Update<'_>>
     }
 }
 
-/// Whether a tree is an update. This only decides how a filter is run: no contract depends on it.
-pub fn is_update(tree: &Tree) -> bool {
-    update_in(tree).is_some()
-}
-
 #[tactic(auto, unfolding(crate::proofs::Reading::reading))]
 fn fold_in(tree: &Tree) -> Option<Fold<'_>>
     ensures { IfSome result (HasFold (named tree.now)) }

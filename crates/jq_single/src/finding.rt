@@ -48,7 +48,7 @@ pub(crate) fn callee_of<'s>(scope: &Scope<'s>, name: &Name, count: usize) -> Fou
                 return callee_of(own, name, count);
             }
             let parameters = function.parameters.as_slice();
-            match argument_of(parameters, arguments.as_slice(), name, None) {
+            match argument_of(parameters, arguments, name, None) {
                 Some(argument) => Found::Closure(argument, **caller),
                 None => callee_of(own, name, count),
             }

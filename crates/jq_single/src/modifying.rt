@@ -4,38 +4,82 @@ ghost use Rattle.jv_meaning.specs.Value.{Value, array, items_of};
 ghost use Rattle.jv_data.specs.View.{view};
 ghost use Rattle.jv_value.specs.GetPath.{getpath_of};
 ghost use Rattle.jq_ast.specs.Named.{name_of, named};
+ghost use Rattle.jq_tree.specs.Tree.{trees_of};
+ghost use Rattle.jq_tree.specs.Tree as form;
 ghost use Rattle.jq_shapes.specs.Names.{HasTurn, HasUpdate};
 ghost use Rattle.jq_shapes.specs.Turn as shape;
 ghost use Rattle.jq_single.specs.Single.{Changed, Keeps};
-ghost use Rattle.jq_single.specs.private.Parts.{ChangesTo, RunsTo};
+ghost use Rattle.jq_single.specs.private.Parts.{ChangesBelow, ChangesTo, RunsTo};
 ghost use Rattle.jq_single.specs.private.UpdateTurns.{Finishes, PutsAt, UpdatesAt, UpdatesOnce, without_parts};
 
-use crate::calling::call_on;
+use crate::calling::{call_on, scope_of_parts};
 use crate::contexts::Context;
-use crate::finding::{Found, callee_of};
+use crate::finding::{Found, callee_of, prelude_of};
 use crate::folding::single_of;
 use crate::scopes::Scope;
 use crate::states::take_state;
 use crate::stops::Stop;
 use crate::turning::{check_natives, check_unbound};
-use jq_ast::Tree;
+use jq_ast::{Name, Tree};
 use jq_natives::Native;
-use jq_shapes::Update;
+use jq_shapes::{Update, update_in};
 use jq_updates::one_path;
 use jv_data::{Array, Val};
 use jv_value::getpath;
 use std::alloc::{AllocError, Global};
 
 impl<'s> Context<'s> {
-    /// An update of a value that is kept: its fold changes a copy.
+    /// `f |= g`, as a call of the prelude's own `_modify`. If its body is not the known one, it is not run at once.
     #[cycle(single)]
     #[inline(never)]
-    pub(crate) fn update(
+    pub(crate) fn change_modify(
         &self,
-        tree: &'s Tree,
-        update: Update<'s>,
-        value: &Val,
-    ) -> Result<Val, Stop>
+        name: &Name,
+        arguments: &'s [Tree],
+        value: &mut Val,
+    ) -> Result<(), Stop>
+        ensures runs { ChangesTo self.now (form.prelude_call (name_of name.now) (trees_of (map named arguments.now))) (view value.old) (view value.new) result }
+        ensures keeps { Keeps result (view value.old) (view value.new) }
+    {
+        let count = arguments.len();
+        match prelude_of(self.scope, name, count) {
+            Found::Function(function, own) => {
+                let scope = scope_of_parts(&own, &*function, &*arguments, &*self.scope);
+                (&*self).change_update_body(&function.body, &scope, value)
+            }
+            _ => Err(Stop::Unknown),
+        }
+    }
+
+    // The body of `_modify` in its own scope, with a call depth that is smaller by one.
+    #[cycle(single)]
+    fn change_update_body(
+        &self,
+        body: &'s Tree,
+        own: &Scope<'s>,
+        value: &mut Val,
+    ) -> Result<(), Stop>
+        ensures runs { ChangesBelow self.now own.now (named body.now) (view value.old) (view value.new) result }
+        ensures keeps { Keeps result (view value.old) (view value.new) }
+    {
+        if self.depth == 0 {
+            return Err(Stop::Unknown);
+        }
+        let inside = Context {
+            scope: &*own,
+            depth: self.depth - 1,
+            ..*self
+        };
+        match update_in(&*body) {
+            Some(update) => inside.change_update(&*body, update, value),
+            None => Err(Stop::Unknown),
+        }
+    }
+
+    // An update of a value that is kept: its fold changes a copy.
+    #[cycle(single)]
+    #[inline(never)]
+    fn update(&self, tree: &'s Tree, update: Update<'s>, value: &Val) -> Result<Val, Stop>
         requires { HasUpdate (named tree.now) update }
         ensures { RunsTo self.now (named tree.now) (view value.now) result }
     {
@@ -49,27 +93,41 @@ impl<'s> Context<'s> {
         }
     }
 
-    /// An update. At one path the value is changed in place; at several a copy is, since a later turn may be one that is not
-    /// run at once.
+    // An update. At one path the value is changed in place; at several a copy is, since a later turn may be one that is not
+    // run at once.
     #[cycle(single)]
     #[inline(never)]
-    pub(crate) fn change_update(
-        &self,
-        tree: &'s Tree,
-        update: Update<'s>,
-        value: &mut Val,
-    ) -> Result<(), Stop>
+    fn change_update(&self, tree: &'s Tree, update: Update<'s>, value: &mut Val) -> Result<(), Stop>
         requires { HasUpdate (named tree.now) update }
         ensures runs { ChangesTo self.now (named tree.now) (view value.old) (view value.new) result }
         ensures keeps { Keeps result (view value.old) (view value.new) }
     {
+        if self.kept {
+            return self.change_copied(tree, update, value);
+        }
         let mut paths = Vec::new(self.alloc);
         match self.gather_source(update.source, value, 2, &mut paths) {
             Ok(()) => match single_of(paths.as_slice()) {
                 Some(path) => self.change_at(update, path, value),
-                None => self.change_kept(tree, value),
+                None => self.change_copied(tree, update, value),
             },
-            Err(_stop) => self.change_kept(tree, value),
+            Err(_stop) => self.change_copied(tree, update, value),
+        }
+    }
+
+    // The value is kept until the update has come to its end.
+    #[cycle(single)]
+    fn change_copied(&self, tree: &'s Tree, update: Update<'s>, value: &mut Val) -> Result<(), Stop>
+        requires { HasUpdate (named tree.now) update }
+        ensures runs { ChangesTo self.now (named tree.now) (view value.old) (view value.new) result }
+        ensures keeps { Keeps result (view value.old) (view value.new) }
+    {
+        match self.update(tree, update, value) {
+            Ok(output) => {
+                *value = output;
+                Ok(())
+            }
+            Err(stop) => Err(stop),
         }
     }
 

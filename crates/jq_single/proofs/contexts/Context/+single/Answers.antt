@@ -11,7 +11,7 @@ use Rattle.jv_data.specs.View.{view}
 use Rattle.jv_data.specs.declared.values.Val.{Val}
 use Rattle.jq_ast.specs.Leaves.{key_of, operator_of}
 use Rattle.jq_ast.specs.Named.{name_of, named, named_as_pattern, named_entry}
-use Rattle.jq_ast.proofs.shared.Forms.{named-Call, named-PreludeCall, named-Object, named-Text, named-Whole}
+use Rattle.jq_ast.proofs.shared.Forms.{named-Call, named-PreludeCall, named-Update, named-Object, named-Text, named-Whole}
 use Rattle.jq_tree.specs.Tree.{Entry, Tree, bind_as, more_entries, object, reduce, text, trees_of, whole}
 use Rattle.jq_operations.specs.Language.{meaning_of}
 use Rattle.jq_machine.specs.Operations.{path_item}
@@ -325,6 +325,11 @@ pub change_form-returns-in-PreludeCall-clause-runs : goal.change_form-returns-in
 change_form-returns-in-PreludeCall-clause-runs t c = λ inputs level.
     subst (λ (u : Tree). Changed c.change_prelude_call.result (view c.change_prelude_call.new.value) (run c.args.self.now inputs level u (plain (view c.args.value.now))))
     (sym (ap named c.in-PreludeCall.is ∙ named-PreludeCall c.in-PreludeCall.name c.in-PreludeCall.arguments)) (c.change_prelude_call.ensures.runs inputs level)
+
+pub change_form-returns-in-Update-clause-runs : goal.change_form-returns-in-Update-clause-runs
+change_form-returns-in-Update-clause-runs t c = λ inputs level.
+    subst (λ (u : Tree). Changed c.change_modify.result (view c.change_modify.new.value) (run c.args.self.now inputs level u (plain (view c.args.value.now))))
+    (sym (ap named c.in-Update.is ∙ named-Update c.in-Update.modify c.in-Update.parts)) (c.change_modify.ensures.runs inputs level)
 
 pub change_kept-returns-in-Err-clause-keeps : goal.change_kept-returns-in-Err-clause-keeps
 change_kept-returns-in-Err-clause-keeps t c = leaves_same c.in-Err.stop (view c.args.value.now)
@@ -1182,6 +1187,26 @@ change_by_names-returns-in_ok-path-in-Closure-clause-runs t c = λ inputs level.
       passed = ap (λ n. find_callee n 0 env) (sym c.requires.filter) ∙ sym (c.in-Closure.ensures inputs);
     } in
     c.run_turn.ensures.runs inputs env level around
+
+pub change_modify-returns-in-Function-clause-runs : goal.change_modify-returns-in-Function-clause-runs
+change_modify-returns-in-Function-clause-runs t c = λ inputs level.
+    let p = c.args.self.now in
+    let n = name_of c.args.name.now in
+    let ts = c.args.arguments.now in
+    subst (Changed c.change_update_body.result (view c.change_update_body.new.value))
+    (ap (λ own. below p.depth (named c.in-Function.function.now.body) own level (plain (view c.args.value.now))) (c.scope_of_parts-scope.ensures inputs)
+    ∙ sym (prelude_runs p inputs level n ts c.in-Function.function.now c.in-Function.own (plain (view c.args.value.now)) (c.in-Function.ensures inputs)))
+    (c.change_update_body.ensures.runs inputs level)
+
+pub change_update_body-returns-in-Some-clause-runs : goal.change_update_body-returns-in-Some-clause-runs
+change_update_body-returns-in-Some-clause-runs t c = λ inputs level.
+    let depth = c.args.self.now.depth in
+    subst (Changed c.change_update.result (view c.change_update.new.value))
+    (body_runs (scope_env inputs c.args.own.now) depth (depth - 1) level (named c.args.body.now) (plain (view c.args.value.now)) (omega arith))
+    (c.change_update.ensures.runs inputs level)
+
+pub change_copied-returns-in-Err-clause-keeps : goal.change_copied-returns-in-Err-clause-keeps
+change_copied-returns-in-Err-clause-keeps t c = leaves_same c.in-Err.stop (view c.args.value.now)
 
 pub update-returns-in-Ok : goal.update-returns-in-Ok
 update-returns-in-Ok t c = λ inputs level.

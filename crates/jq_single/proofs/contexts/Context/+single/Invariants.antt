@@ -174,6 +174,15 @@ decreases-change_to_next l = 16 * l.self.now.fuel + 1
 abbrev pub decreases-turn : goal.decreases-turn
 decreases-turn l = 16 * l.self.now.fuel + 3
 
+abbrev pub decreases-change_modify : goal.decreases-change_modify
+decreases-change_modify l = 16 * l.self.now.fuel + 11
+
+abbrev pub decreases-change_update_body : goal.decreases-change_update_body
+decreases-change_update_body l = 16 * l.self.now.fuel + 9
+
+abbrev pub decreases-change_copied : goal.decreases-change_copied
+decreases-change_copied l = 16 * l.self.now.fuel + 6
+
 abbrev pub decreases-change_update : goal.decreases-change_update
 decreases-change_update l = 16 * l.self.now.fuel + 8
 
