@@ -1,0 +1,5 @@
+pub mod Forms
+pub mod Turns
+pub mod Updates
+pub mod Stays
+pub mod Nothing
