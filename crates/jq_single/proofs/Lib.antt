@@ -4,10 +4,6 @@ pub mod GivenArguments
 pub mod Gathered
 pub mod Folded
 pub mod Located
-pub mod Views
 pub mod FirstOutputs
-pub mod TurnForms
-pub mod TurnRuns
-pub mod Outcomes
-pub mod Updated
+pub mod Updating
 pub mod Passed

@@ -232,18 +232,6 @@ pub(crate) fn scope_of_call<'s>(
 ) -> Scope<'s>
     ensures { (inputs : Run Value) → scope_env inputs result ≡ body_env function.now arguments.now.items (scope_env inputs caller.now) (scope_env inputs own.now) }
 {
-    scope_of_parts(own, function, arguments.as_slice(), caller)
-}
-
-/// The same for arguments in a slice.
-pub(crate) fn scope_of_parts<'s>(
-    own: &'s Scope<'s>,
-    function: &'s Function<Tree>,
-    arguments: &'s [Tree],
-    caller: &'s Scope<'s>,
-) -> Scope<'s>
-    ensures { (inputs : Run Value) → scope_env inputs result ≡ body_env function.now arguments.now (scope_env inputs caller.now) (scope_env inputs own.now) }
-{
     if function.parameters.is_empty() {
         *own
     } else {

@@ -15,7 +15,7 @@ use crate::scopes::{Outside, Scope};
 use crate::stops::Stop;
 use jq_ast::{Function, Operator, Pattern, Tree};
 use jq_natives::truth;
-use jq_shapes::{goes_over_all, is_cheap, is_items};
+use jq_shapes::{goes_over_all, is_cheap};
 use jq_state::environments::Nodes;
 use jv_data::Val;
 use std::alloc::Global;
@@ -81,7 +81,6 @@ impl<'s> Context<'s> {
             Tree::Choice(condition, holds, fails) => {
                 self.change_choice(condition, holds, fails, value)
             }
-            Tree::BindAs(_, pattern, _) if is_items(pattern) => self.change_turn(tree, value),
             Tree::BindAs(source, pattern, body) => {
                 self.change_binding(source, pattern, body, value)
             }
@@ -90,7 +89,7 @@ impl<'s> Context<'s> {
             Tree::PreludeCall(name, arguments) => {
                 self.change_prelude_call(name, arguments, value)
             }
-            Tree::Update(modify, parts) => { self.change_modify(&modify.name, &**parts, value) }
+            Tree::Update(modify, parts) => self.change_update(modify, &**parts, value),
             Tree::Reduce(source, pattern, start, update) => {
                 self.change_reduce(source, pattern, start, update, value)
             }

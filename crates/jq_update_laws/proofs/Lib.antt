@@ -2,4 +2,4 @@ pub mod Forms
 pub mod Turns
 pub mod Updates
 pub mod Stays
-pub mod Nothing
+pub mod Listed

@@ -6,7 +6,7 @@ use Rattle.jv_meaning.specs.Value.{Value, null, array, items_of}
 use Rattle.jq_natives.specs.Answers.{Answer}
 use Rattle.jq_natives.specs.PathNatives.{getpath_native_of, setpath_native_of}
 use Rattle.jq_tree.specs.Tree.{Tree, variable, trees_of, pipe}
-use Rattle.jq_meaning.specs.Runs.{Item, plain, value_in, Run, bind, Ending, Done, Raised, Broken, Deep, ended, none, one, fail, go_on, then_run, answered, labelled}
+use Rattle.jq_meaning.specs.Runs.{Item, plain, value_in, Run, bind, Ending, Done, Raised, Broken, Stopped, ended, none, one, fail, go_on, then_run, answered, labelled}
 use Rattle.jq_meaning.specs.Env.{Env, Callee, found_closure, no_callee, bound, value_of, label_of, find_callee, find_value, find_inputs}
 use Rattle.jq_meaning.specs.Builtins.{builtin_named, builtin_run}
 use Rattle.jq_meaning.specs.Continuations.{on_right, on_left}
@@ -139,7 +139,7 @@ module _ (deeper : Means) (e : Env) (k : ℕ) (s x ds p : Value) (body : Tree) (
     by-ending part (Broken j) h =
         ap after (opened (ended (Broken j)) (labelled k (ended (Broken j))) (as-ended deeper new_part changed (codes "v") inside (suc k) s (Broken j) h) refl)
         ∙ by-level j (nat_eq j k)
-    by-ending part Deep h = ap after (opened (ended Deep) (ended Deep) (as-ended deeper new_part changed (codes "v") inside (suc k) s Deep h) refl)
+    by-ending part (Stopped stop) h = ap after (opened (ended (Stopped stop)) (ended (Stopped stop)) (as-ended deeper new_part changed (codes "v") inside (suc k) s (Stopped stop) h) refl)
 
     by-set : (w : Item) (ws : List Item) (f : Ending) (a : Answer) → meaning_with deeper new_part inside (suc k) (plain s) ≡ record { items = w ∷ ws; ending = f }
         → setpath_native_of x p (value_in w) ≡ a → after (meaning_with deeper turn e k (plain s)) ≡ with_answer a (λ y. next y ds)

@@ -1,5 +1,5 @@
 -- The law of updates.
-use Rattle.std.proofs.Common.{◌≡◌, ◌∙◌, ℕ, zero, suc, List, [], ◌∷◌, codes, refl, ap}
+use Rattle.std.proofs.Common.{◌≡◌, ◌∙◌, ℕ, zero, suc, List, [], ◌∷◌, map, codes, refl, ap}
 use Rattle.jv_meaning.specs.Value.{Value, null, array, items_of}
 use Rattle.jq_natives.specs.PathNatives.{delpaths_native_of}
 use Rattle.jq_tree.specs.Tree.{Name, Tree, variable, trees_of, no_trees, more_trees, whole, call}
@@ -78,14 +78,14 @@ module _ (deeper : Means) (f g : Tree) (caller own : Env) (k : ℕ)
   closing = meaning_with deeper finish env k
 
   -- the turns and the end, from a state
-  turns-run : (ps : List Item) (e : Ending) (s x ds : Value) → Reads s x ds → bind (reduced step ps e (plain s)) closing ≡ turns k filtered ps e x ds
+  turns-run : (ps : List Item) (e : Ending) (s x ds : Value) → Reads s x ds → bind (reduced step ps e (plain s)) closing ≡ turns k filtered (map value_in ps) e x ds
   turns-run [] e s x ds reads =
       go_on-bind e (one (plain s)) closing ∙ ap (go_on e) (bind-one (plain s) closing ∙ finish-run s x ds reads)
   turns-run (p ∷ ps) e s x ds reads =
       let r = step p (plain s) in
       go_on-bind r.ending (reduced step ps e (last_or (plain null) r.items)) closing
       ∙ turn-run deeper (bound (value_of (codes "p") (value_in p)) env) k s x ds (value_in p) g caller (around (value_in p)) reads
-      (λ y. bind (reduced step ps e y) closing) (turns k filtered ps e)
+      (λ y. bind (reduced step ps e y) closing) (turns k filtered (map value_in ps) e)
       (λ y d. turns-run ps e (state y d) y d (record { first = refl; second = refl }))
       (turns-run ps e null null null (record { first = refl; second = refl }))
 
@@ -102,9 +102,9 @@ module _ (deeper : Means) (f g : Tree) (caller own : Env) (k : ℕ)
 
 pub updates-are-turns : UpdatesAreTurns
 updates-are-turns depth f g e k x m =
-    called-function (below depth) (find_in_prelude (codes "_modify") 2 e) modify_parameters modify_body m.own (more_trees f (more_trees g no_trees)) e k x none m.found
+    called-function (below depth) (find_in_prelude (codes "_modify") 2 e) modify_parameters modify_body m.own (more_trees f (more_trees g no_trees)) e k x none m.is.found
     ∙ go depth
   where
     go : (d : ℕ) → below d modify_body (bound (closure (codes "u") g e) (bound (closure (codes "ps") f e) m.own)) k x ≡ update_run d f g e k x
     go zero = refl
-    go (suc d) = body-run (below d) f g e m.own k m.natives.paths m.natives.gets m.natives.sets m.natives.removes x
+    go (suc d) = body-run (below d) f g e m.own k m.is.paths m.is.gets m.is.sets m.is.removes x

@@ -23,4 +23,4 @@ abbrev pub scope_env : Run Value → Scope → Env
 scope_env inputs (scope.Run o) = env_at (envs_of inputs o.nodes.now) o.env
 scope_env inputs (scope.Value' p outer name v) = bound (env.value_of (text_of name.now) (view v.now)) (scope_env inputs outer)
 scope_env inputs (scope.Function' p outer f) = bound (env.function (text_of f.now.name) (map text_of f.now.parameters.items) (named f.now.body)) (scope_env inputs outer)
-scope_env inputs (scope.Call' p own f ts q caller) = body_env f.now ts.now (scope_env inputs caller) (scope_env inputs own)
+scope_env inputs (scope.Call' p own f ts q caller) = body_env f.now ts.now.items (scope_env inputs caller) (scope_env inputs own)

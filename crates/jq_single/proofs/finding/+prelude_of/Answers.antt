@@ -26,5 +26,5 @@ returns-in-Call t c = λ inputs.
     let finds : Env → Callee = find_in_prelude (name_of c.args.name.now) c.args.count in
     subst (λ (x : Callee). callee_or found x ≡ x)
     (sym (ap finds (ap (scope_env inputs) c.in-Call.is)
-    ∙ prelude_past (name_of c.args.name.now) c.args.count (map text_of c.in-Call.field-1.now.parameters.items) (trees_of (map named c.in-Call.field-2.now)) (scope_env inputs c.in-Call.field-3.now) (scope_env inputs c.in-Call.own.now)))
+    ∙ prelude_past (name_of c.args.name.now) c.args.count (map text_of c.in-Call.field-1.now.parameters.items) (trees_of (map named c.in-Call.field-2.now.items)) (scope_env inputs c.in-Call.field-3.now) (scope_env inputs c.in-Call.own.now)))
     (c.prelude_of-in-Call.ensures inputs)

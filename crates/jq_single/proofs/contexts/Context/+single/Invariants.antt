@@ -108,9 +108,6 @@ decreases-gather_source l = 16 * l.self.now.fuel + 1
 abbrev pub decreases-fold : goal.decreases-fold
 decreases-fold l = 16 * l.self.now.fuel + 3
 
-abbrev pub decreases-update : goal.decreases-update
-decreases-update l = 16 * l.self.now.fuel + 5
-
 abbrev pub decreases-change : goal.decreases-change
 decreases-change l = 16 * l.self.now.fuel
 
@@ -174,35 +171,26 @@ decreases-change_to_next l = 16 * l.self.now.fuel + 1
 abbrev pub decreases-turn : goal.decreases-turn
 decreases-turn l = 16 * l.self.now.fuel + 3
 
-abbrev pub decreases-change_modify : goal.decreases-change_modify
-decreases-change_modify l = 16 * l.self.now.fuel + 11
+abbrev pub decreases-change_update : goal.decreases-change_update
+decreases-change_update l = 16 * l.self.now.fuel + 11
 
-abbrev pub decreases-change_update_body : goal.decreases-change_update_body
-decreases-change_update_body l = 16 * l.self.now.fuel + 9
+abbrev pub decreases-change_parts : goal.decreases-change_parts
+decreases-change_parts l = 16 * l.self.now.fuel + 9
+
+abbrev pub decreases-paths_of : goal.decreases-paths_of
+decreases-paths_of l = 16 * l.self.now.fuel + 5
+
+abbrev pub decreases-change_one : goal.decreases-change_one
+decreases-change_one l = 16 * l.self.now.fuel + 8
 
 abbrev pub decreases-change_copied : goal.decreases-change_copied
-decreases-change_copied l = 16 * l.self.now.fuel + 6
+decreases-change_copied l = 16 * l.self.now.fuel + 8
 
-abbrev pub decreases-change_update : goal.decreases-change_update
-decreases-change_update l = 16 * l.self.now.fuel + 8
-
-abbrev pub decreases-change_at : goal.decreases-change_at
-decreases-change_at l = 16 * l.self.now.fuel + 7
+abbrev pub decreases-change_each : goal.decreases-change_each
+decreases-change_each l = 16 * l.self.now.fuel + 7
 
 abbrev pub decreases-change_part : goal.decreases-change_part
 decreases-change_part l = 16 * l.self.now.fuel + 6
-
-abbrev pub decreases-change_turn : goal.decreases-change_turn
-decreases-change_turn l = 16 * l.self.now.fuel + 8
-
-abbrev pub decreases-change_by_names : goal.decreases-change_by_names
-decreases-change_by_names l = 16 * l.self.now.fuel + 7
-
-abbrev pub decreases-run_turn : goal.decreases-run_turn
-decreases-run_turn l = 16 * l.self.now.fuel + 6
-
-abbrev pub decreases-change_to_first : goal.decreases-change_to_first
-decreases-change_to_first l = 16 * l.self.now.fuel + 5
 
 abbrev pub decreases-change_first : goal.decreases-change_first
 decreases-change_first l = 16 * l.self.now.fuel + 4
@@ -302,3 +290,9 @@ invariant-give_numbers-loop-value l =
 
 abbrev pub decreases-give_numbers-loop-value : goal.decreases-give_numbers-loop-value
 decreases-give_numbers-loop-value l = length (numbers_from l.next l.end).items
+
+abbrev pub invariant-change_each-loop-path : goal.invariant-change_each-loop-path
+invariant-change_each-loop-path l =
+    (inputs : Run Value) (level : ℕ)
+    → turns level (part_run l.self.now inputs level (named l.update.now)) (map view (drop l.path-index l.paths)) Done (view l.value) (listed l.without.items)
+    ≡ turns level (part_run l.self.now inputs level (named l.update.now)) (map view l.paths) Done (view l.initial.value) (array (items_of []))

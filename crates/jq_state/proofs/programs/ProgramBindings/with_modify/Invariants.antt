@@ -1,7 +1,7 @@
 use Rattle.std.proofs.Common.{◌≡◌, length, map}
 use Rattle.jq_state.specs.Buckets.{bucket_of}
 use Rattle.jq_state.specs.Chained.{Latest, Earlier}
-use Rattle.jq_state.proofs.programs.ProgramBindings.new.Given as goal
+use Rattle.jq_state.proofs.programs.ProgramBindings.with_modify.Given as goal
 
 abbrev pub invariant-loop-item : goal.invariant-loop-item
 invariant-loop-item l = record {

@@ -4,7 +4,7 @@ use Rattle.std.proofs.lemmas.List.{get_or-map, length-set}
 use Rattle.jq_state.specs.Buckets.{bucket_of}
 use Rattle.jq_state.specs.Chained.{Latest, Earlier}
 use Rattle.jq_state.proofs.Chaining.{more_chains, more_links}
-use Rattle.jq_state.proofs.programs.ProgramBindings.new.Goals as goal
+use Rattle.jq_state.proofs.programs.ProgramBindings.with_modify.Goals as goal
 
 pub loop-item-preserved : goal.loop-item-preserved
 loop-item-preserved c =
