@@ -1,2 +1,3 @@
 -- What is proved about runs.
 pub mod Unhalted
+pub mod Updates

@@ -16,6 +16,7 @@ ghost use Rattle.jq_tree.specs.Tree.{Name};
 ghost use Rattle.jq_filters.specs.Outcomes.{Job, Mode, first_halt, runs_in, up_to_halt};
 ghost use Rattle.jq_filters.specs.Programs.{bindings_of, function_binding};
 ghost use Rattle.jq_filters.specs.Unhalted.{NeverHalts};
+ghost use Rattle.jq_filters.specs.laws.Updates.{FunctionsAreThePreludes, ModifyIsKnown};
 ghost use Rattle.jq_filters.specs.laws.Unhalted.{NeverHaltsAfterThePrelude, NeverHaltsInItsBindings};
 
 use jq_syntax::prelude_laws::{only_halt_error_halts, prelude_is_accepted};
@@ -25,6 +26,18 @@ use jq_syntax::prelude_laws::{only_halt_error_halts, prelude_is_accepted};
 pub fn bindings_stand_for_the_prelude()
     ensures { (d : ℕ) (vs : List (Name × Value)) (fs : List (Function Tree)) (t : Tree) (bs : List ProgramBinding) (inputs : Run Value) (x : Item) → map program_binding bs ≡ bindings_of vs fs
         → meaning d (named t) (program_env (map program_binding bs) (length bs) inputs) 0 x ≡ meaning d (named_program fs t) (with_variables vs (outermost inputs)) 0 x }
+{}
+
+/// The functions of a program are those that the prelude's text defines.
+pub fn functions_are_the_preludes()
+    ensures { FunctionsAreThePreludes }
+{
+    prelude_is_accepted();
+}
+
+/// Among the bindings of a program is the prelude's `_modify`.
+pub fn the_prelude_has_modify()
+    ensures { ModifyIsKnown }
 {}
 
 /// The bindings of a program are those of its functions, around which are the variables.

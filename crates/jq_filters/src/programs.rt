@@ -3,27 +3,39 @@ ghost use Rattle.std.specs.Prelude.{◌≡◌, ◌++◌, IfOk, OnOk, map, revers
 ghost use Rattle.jq_syntax.specs.Chosen.{variables_of};
 ghost use Rattle.jq_state.specs.Listed.{items_in};
 ghost use Rattle.jq_state.specs.Nodes.{program_binding};
+ghost use Rattle.jq_bindings.specs.laws.Added.{functions_before};
+ghost use Rattle.jq_syntax.specs.laws.Computed.{prelude};
 ghost use Rattle.jq_filters.specs.Programs.{bindings_of, function_binding, value_binding};
 
+use crate::laws::the_prelude_has_modify;
 use jq_ast::{Function, Tree};
 use jq_state::environments::ProgramBinding;
 use jq_state::programs::ProgramBindings;
 use jv_data::{NoMemory, Val};
 use std::alloc::Global;
 
+// The number of the prelude's functions up to `_modify`.
+const UP_TO_MODIFY: usize = 36;
+
 /// The bindings around a filter, from the outermost to the innermost: the variables, of which the first comes last, and then
-/// the functions in their order.
+/// the prelude's functions in their order.
 pub fn bindings_of(
     alloc: Global,
     variables: Vec<(String, Val)>,
     functions: Vec<Function<Tree>>,
 ) -> Result<ProgramBindings, NoMemory>
+    requires { map function_binding functions.items ≡ functions_before prelude }
     ensures { IfOk result (λ bs. map program_binding (items_in bs) ≡ bindings_of (variables_of variables.items) functions.items) }
 {
+    the_prelude_has_modify();
+    let modify = match u32::try_from(variables.len() + UP_TO_MODIFY) {
+        Ok(count) => Some(count),
+        Err(_) => None,
+    };
     let mut bindings = Vec::with_capacity(alloc, variables.len())?;
     add_variables(&mut bindings, variables)?;
     add_functions(&mut bindings, functions)?;
-    ProgramBindings::new(alloc, bindings)
+    ProgramBindings::with_modify(alloc, bindings, modify)
 }
 
 fn add_variables(
