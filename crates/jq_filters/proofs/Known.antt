@@ -17,7 +17,7 @@ use Rattle.jq_tree.specs.Prelude.{followed_by}
 use Rattle.jq_tree.specs.Tree.{Name, Tree}
 use Rattle.jq_tree.specs.Tree as tree
 use Rattle.jq_update_laws.specs.Body.{modify_body, modify_parameters}
-use Rattle.jq_update_laws.specs.Laws.{HasModifyOf}
+use Rattle.jq_update_laws.specs.Known.{HasModifyOf}
 use Rattle.jq_filters.proofs.Around.{added, variables_around}
 use Rattle.jq_filters.specs.Programs.{bindings_of, function_binding, value_binding}
 use Rattle.jq_filters.specs.laws.Updates.{ModifyIsKnown}

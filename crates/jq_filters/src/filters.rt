@@ -9,10 +9,7 @@ ghost use Rattle.jq_filters.specs.Runner.{mode_of, run_in};
 ghost use Rattle.jq_filters.specs.Unhalted.{NeverHalts};
 ghost use Rattle.jq_syntax.specs.Chosen.{Chosen, chosen};
 
-use crate::laws::{
-    bindings_stand_for_the_prelude, filters_without_a_call_of_halt_never_halt,
-    functions_are_the_preludes,
-};
+use crate::laws::{bindings_stand_for_the_prelude, filters_without_a_call_of_halt_never_halt};
 use crate::programs::bindings_of;
 use crate::runner::Runner;
 use crate::settings::{Mode, Settings};
@@ -48,7 +45,6 @@ impl Filter {
         ensures refused { IfErr result (IsRefusal (chars text.now) (setting_of options)) }
     {
         bindings_stand_for_the_prelude();
-        functions_are_the_preludes();
         filters_without_a_call_of_halt_never_halt();
         let program = compile(alloc, text, &options)?;
         let settings = settings_of(&options, program.reads());
@@ -56,7 +52,7 @@ impl Filter {
         let plan = program.plan();
         let halts = program.halts();
         let (tree, functions) = program.into_parts();
-        let bindings = bindings_of(alloc, options.vars, functions)?;
+        let bindings = bindings_of(alloc, options.vars, functions, &tree)?;
         Ok(Filter {
             tree,
             bindings,

@@ -3,11 +3,9 @@ ghost use Rattle.std.specs.Prelude.{◌≡◌, ◌++◌, IfOk, OnOk, map, revers
 ghost use Rattle.jq_syntax.specs.Chosen.{variables_of};
 ghost use Rattle.jq_state.specs.Listed.{items_in};
 ghost use Rattle.jq_state.specs.Nodes.{program_binding};
-ghost use Rattle.jq_bindings.specs.laws.Added.{functions_before};
-ghost use Rattle.jq_syntax.specs.laws.Computed.{prelude};
-ghost use Rattle.jq_filters.specs.Programs.{bindings_of, function_binding, value_binding};
+ghost use Rattle.jq_filters.specs.Programs.{IsPreludeBefore, bindings_of, function_binding, value_binding};
 
-use crate::laws::the_prelude_has_modify;
+use crate::laws::{functions_are_the_preludes, the_prelude_has_modify};
 use jq_ast::{Function, Tree};
 use jq_state::environments::ProgramBinding;
 use jq_state::programs::ProgramBindings;
@@ -23,10 +21,12 @@ pub fn bindings_of(
     alloc: Global,
     variables: Vec<(String, Val)>,
     functions: Vec<Function<Tree>>,
+    tree: &Tree,
 ) -> Result<ProgramBindings, NoMemory>
-    requires { map function_binding functions.items ≡ functions_before prelude }
+    requires { IsPreludeBefore functions.items tree.now }
     ensures { IfOk result (λ bs. map program_binding (items_in bs) ≡ bindings_of (variables_of variables.items) functions.items) }
 {
+    functions_are_the_preludes();
     the_prelude_has_modify();
     let modify = match u32::try_from(variables.len() + UP_TO_MODIFY) {
         Ok(count) => Some(count),

@@ -7,7 +7,8 @@ use Rattle.jq_state.specs.Environments.{envs_of, program_of}
 use Rattle.jq_state.specs.Modify.{KnowsModify}
 use Rattle.jq_state.specs.Nodes.{env_at}
 use Rattle.jq_state.specs.declared.environments.Nodes.{Nodes}
-use Rattle.jq_update_laws.specs.Laws.{HasModify, HasModifyOf, ModifyStays}
+use Rattle.jq_update_laws.specs.Known.{HasModify, HasModifyOf}
+use Rattle.jq_update_laws.specs.laws.Updates.{ModifyStays}
 use Rattle.jq_operations.specs.private.Program.{ProgramIsAList}
 use Rattle.jq_operations.proofs.Programs.{Comes, there}
 

@@ -4,7 +4,7 @@ ghost use Rattle.jv_meaning.specs.Value.{Value};
 ghost use Rattle.jq_meaning.specs.Runs.{Run};
 ghost use Rattle.jq_state.specs.Environments.{count_of, envs_of, program_of};
 ghost use Rattle.jq_state.specs.Nodes.{env_at};
-ghost use Rattle.jq_update_laws.specs.Laws.{HasModify};
+ghost use Rattle.jq_update_laws.specs.Known.{HasModify};
 
 use crate::program::program_is_a_list;
 use jq_state::environments::Nodes;

@@ -22,7 +22,7 @@ use Rattle.jq_meaning.specs.Builtins.{values_in_array}
 use Rattle.jq_meaning.specs.Env.{Env}
 use Rattle.jq_meaning.specs.Meaning.{meaning}
 use Rattle.jq_meaning.specs.Runs.{Item, plain, located, value_in, Ending, Done, Raised, Broken, Stopped, Run, none, one, fail, gathered, answered, paths_in}
-use Rattle.jq_update_laws.specs.Updating.{with_answer, on_outputs, turn_of, turns, updated, update_run}
+use Rattle.jq_update_laws.specs.laws.Updating.{with_answer, on_outputs, turn_of, turns, updated, update_run}
 use Rattle.jq_single.specs.Single.{Changed, Ends}
 use Rattle.jq_single.specs.declared.stops.Stop.{Stop}
 use Rattle.jq_single.specs.declared.stops.Stop.TheVariants as stop

@@ -9,7 +9,7 @@ ghost use Rattle.jq_state.specs.Environments.{count_of, envs_of};
 ghost use Rattle.jq_single.specs.private.Scopes.{scope_env};
 ghost use Rattle.jq_single.specs.private.Finds.{FindsBound, FindsInPrelude, found_in};
 ghost use Rattle.jq_state.specs.Nodes.{env_at};
-ghost use Rattle.jq_update_laws.specs.Laws.{HasModify};
+ghost use Rattle.jq_update_laws.specs.Known.{HasModify};
 ghost use Rattle.jq_operations.specs.Callees.{CalleeFits, callee_in};
 
 use crate::scopes::{Outside, Scope};

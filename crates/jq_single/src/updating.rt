@@ -25,6 +25,7 @@ use jq_shapes::pays_for_copy;
 use jq_update_laws::laws::an_update_is_its_turns;
 use jv_data::{Array, NoMemory, Val};
 use jv_value::getpath;
+use jv_value::laws::deleting_no_path_changes_nothing;
 use std::alloc::Global;
 
 // The most paths that are kept in a list.
@@ -196,6 +197,10 @@ fn delete_listed(alloc: Global, value: &mut Val, without: Vec<Val>) -> Result<()
     ensures runs { Changed result (view value.new) (plain_native DelPaths (view value.old) (listed without.items ∷ [])) }
     ensures keeps { (v : Value) → Keeps result v (view value.new) }
 {
+    deleting_no_path_changes_nothing();
+    if without.is_empty() {
+        return Ok(());
+    }
     let paths = Val::List(Array::from_vec(alloc, without)?);
     call_on(alloc, Native::DelPaths, value, &[paths])
 }

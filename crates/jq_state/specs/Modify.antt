@@ -4,7 +4,7 @@ use Rattle.jv_meaning.specs.Value.{Value}
 use Rattle.jq_bindings.specs.Programs.{program_env}
 use Rattle.jq_meaning.specs.Env.{Binding}
 use Rattle.jq_meaning.specs.Runs.{Run}
-use Rattle.jq_update_laws.specs.Laws.{HasModifyOf}
+use Rattle.jq_update_laws.specs.Known.{HasModifyOf}
 
 -- The last of so many bindings is the prelude's `_modify`. If no number is given, nothing is known.
 abbrev pub KnowsModify : List Binding → Option ℕ → Type 0

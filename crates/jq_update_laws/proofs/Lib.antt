@@ -2,4 +2,3 @@ pub mod Forms
 pub mod Turns
 pub mod Updates
 pub mod Stays
-pub mod Listed

@@ -2,7 +2,8 @@
 use Rattle.std.proofs.Common.{ap, codes}
 use Rattle.std.specs.Prelude.{if◌then◌else◌, length}
 use Rattle.jq_meaning.specs.Env.{Env, Binding, found_function, no_callee, bound, value_of, function, closure, label_of, callee_or, is_named}
-use Rattle.jq_update_laws.specs.Laws.{HasModifyOf, ModifyStays}
+use Rattle.jq_update_laws.specs.Known.{HasModifyOf}
+use Rattle.jq_update_laws.specs.laws.Updates.{ModifyStays}
 
 stays : (b : Binding) (own e : Env) → HasModifyOf own e → HasModifyOf own (bound b e)
 stays (value_of n v) own e m = record { found = m.found; paths = m.paths; gets = m.gets; sets = m.sets; removes = m.removes }

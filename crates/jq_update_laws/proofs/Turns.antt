@@ -14,8 +14,8 @@ use Rattle.jq_meaning.specs.Folds.{next_state}
 use Rattle.jq_meaning.specs.Meaning.{Means, meaning_with, arguments_with, called}
 use Rattle.jq_machine.proofs.RunLaws.{then_run-none}
 use Rattle.jq_update_laws.specs.Body.{old_part, update_call, set_part, set_on, new_part, changed, put_part, longer, without_part, choosing, turn}
-use Rattle.jq_update_laws.specs.Updating.{with_answer}
-use Rattle.jq_update_laws.specs.Updating.{without_output, on_outputs, turn_of}
+use Rattle.jq_update_laws.specs.laws.Updating.{with_answer}
+use Rattle.jq_update_laws.specs.laws.Updating.{without_output, on_outputs, turn_of}
 use Rattle.jq_update_laws.proofs.Forms.{state, Reads, pipe-one, as-ended, as-first, pair-bound, called-none, labelled-broken, pair-one, pair-fails, pair-fails_after}
 
 -- The names in a turn: two natives that no definition binds, the path, and a filter that was passed, with its own environment.

@@ -11,8 +11,8 @@ use Rattle.jq_meaning.specs.Meaning.{Means, meaning_with, below, arguments_with,
 use Rattle.jq_meaning.specs.Runs.{Item, plain, located, value_in, Ending, Run, none, one, go_on, bind_items, bind, answered, paths_in, path_error}
 use Rattle.jq_machine.proofs.RunLaws.{bind-one, then_run-none}
 use Rattle.jq_update_laws.specs.Body.{source, turn, remove_paths, removal, finish, modify_body, modify_parameters}
-use Rattle.jq_update_laws.specs.Updating.{turns, updated, update_run}
-use Rattle.jq_update_laws.specs.Laws.{UpdatesAreTurns}
+use Rattle.jq_update_laws.specs.laws.Updating.{turns, updated, update_run}
+use Rattle.jq_update_laws.specs.laws.Updates.{UpdatesAreTurns}
 use Rattle.jq_update_laws.proofs.Forms.{state, Reads, pipe-one, pair-bound, called-none, called-function, go_on-bind}
 use Rattle.jq_update_laws.proofs.Turns.{Around, turn-run}
 

@@ -1,3 +1,3 @@
 pub mod Body
-pub mod Updating
-pub mod Laws
+pub mod Known
+pub mod laws

@@ -5,7 +5,7 @@ use Rattle.jv_data.specs.View.{view}
 use Rattle.jv_data.specs.declared.values.Val.{Val}
 use Rattle.jq_tree.specs.Tree.{Tree}
 use Rattle.jq_meaning.specs.Runs.{Item, Run, Done, plain, located, one, gathered, paths_in}
-use Rattle.jq_update_laws.specs.Updating.{turn_of, turns, updated}
+use Rattle.jq_update_laws.specs.laws.Updating.{turn_of, turns, updated}
 use Rattle.jq_single.specs.Single.{Changed}
 use Rattle.jq_single.specs.declared.contexts.Context.{Context}
 use Rattle.jq_single.specs.declared.stops.Stop.{Stop}
