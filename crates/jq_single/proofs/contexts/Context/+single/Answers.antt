@@ -34,11 +34,9 @@ use Rattle.jq_single.specs.private.Gathering.{Gathers, folded, given_of, made, n
 use Rattle.jq_state.specs.Items.{item_of}
 use Rattle.jq_state.proofs.shared.Items.{absent, value_of_item}
 use Rattle.jq_single.specs.private.Making.{entries_in}
-use Rattle.jq_single.specs.private.Around.{Around}
-use Rattle.jq_single.specs.private.States.{first_of, second_of}
-use Rattle.jq_shapes.specs.Turn as shape
-use Rattle.jq_single.specs.private.UpdateTurns.{PutsFirst, PutsSecond}
-use Rattle.jq_single.specs.private.UpdateTurns as updates
+use Rattle.jq_single.specs.private.Updates.{listed, part_run, path_run}
+use Rattle.jq_update_laws.specs.Known.{HasModify}
+use Rattle.jq_update_laws.specs.laws.Updating.{turns}
 use Rattle.jq_single.specs.private.FirstOutputs.{first_alone}
 use Rattle.jq_single.specs.private.Parts.{Answers, builtin_in, run}
 use Rattle.jq_single.specs.Single.{Changed, Ends}
@@ -47,8 +45,7 @@ use Rattle.jq_single.specs.declared.rests.Rest.{Rest}
 use Rattle.jq_single.proofs.Gathered.{gathers-none, gathers-then, gathers-fail, gathers_all, gives_first, stops_first, stops-then, gathered_list, ends_gathered, bound_rest, picks_holds, picks_fails}
 use Rattle.jq_single.proofs.Folded.{fold_value, turned, fold_ends, single_fold}
 use Rattle.jq_single.proofs.FirstOutputs.{answers-first, changed-first, first-then}
-use Rattle.jq_single.proofs.Outcomes.{getpath_keys, setpath_keys, put_turn, keep_turn, raising_turn}
-use Rattle.jq_single.proofs.Updated.{finish-run, update_once, put_once, delete_once, raise_once}
+use Rattle.jq_single.proofs.Updating.{first_turn, getpath_keys, known_paths, listed_more, modify_tree, turn_lists, turn_raises, turn_sets, two_calls_deep}
 use Rattle.jq_single.proofs.Located.{path_given, path_of_builtin, paths-rest}
 use Rattle.jq_single.proofs.Bodies.{body_runs, builtin_runs, closure_runs, function_runs, named-Identity, prelude_runs}
 use Rattle.jq_single.proofs.GivenArguments.{native_plain, two_chosen}
@@ -328,8 +325,8 @@ change_form-returns-in-PreludeCall-clause-runs t c = λ inputs level.
 
 pub change_form-returns-in-Update-clause-runs : goal.change_form-returns-in-Update-clause-runs
 change_form-returns-in-Update-clause-runs t c = λ inputs level.
-    subst (λ (u : Tree). Changed c.change_modify.result (view c.change_modify.new.value) (run c.args.self.now inputs level u (plain (view c.args.value.now))))
-    (sym (ap named c.in-Update.is ∙ named-Update c.in-Update.modify c.in-Update.parts)) (c.change_modify.ensures.runs inputs level)
+    subst (λ (u : Tree). Changed c.change_update.result (view c.change_update.new.value) (run c.args.self.now inputs level u (plain (view c.args.value.now))))
+    (sym (ap named c.in-Update.is ∙ named-Update c.in-Update.modify c.in-Update.parts)) (c.change_update.ensures.runs inputs level)
 
 pub change_kept-returns-in-Err-clause-keeps : goal.change_kept-returns-in-Err-clause-keeps
 change_kept-returns-in-Err-clause-keeps t c = leaves_same c.in-Err.stop (view c.args.value.now)
@@ -1124,3 +1121,91 @@ first_of_two-returns-in-Err-Raised t c = λ inputs level.
     let v = plain (view c.args.value.now) in
     let go : Tree → Run Item = λ u. run c.args.self.now inputs level u v in
     first-then (go (named c.args.left.now)) (go (named c.args.right.now)) (fail (view c.in-Err-Raised.error)) ((rw c.in-Err-Raised.field-0-is at c.in-Err-Raised.ensures) inputs level)
+
+-- ---- updates
+
+pub change_update-returns-in-len2-clause-runs : goal.change_update-returns-in-len2-clause-runs
+change_update-returns-in-len2-clause-runs t c = λ inputs level.
+    let p = c.args.self.now in
+    let e = scope_env inputs p.scope.now in
+    let v = view c.args.value.now in
+    let f = named c.paths-item.result in
+    let g = named c.update-item.result in
+    let d = p.depth - 2 in
+    let deep : p.depth ≡ suc (suc d) = omega arith in
+    let two : length c.args.parts.now ≡ 2 = omega (arith, c.in-len2.len_at_least, c.in-len2.len_below) in
+    let has : HasModify e = c.has_modify.ensures (search rules) inputs in
+    subst (Changed c.change_parts.result (view c.change_parts.new.value))
+    (sym (ap (λ u. run p inputs level u (plain v)) (modify_tree c.args.modify.now c.args.parts.now c.paths-item.result c.update-item.result two c.paths-item.is c.update-item.is)
+    ∙ c.an_update_is_its_turns.ensures p.depth f g e level (plain v) has ∙ two_calls_deep p.depth d f g e level v deep))
+    (c.change_parts.ensures.runs inputs level)
+
+pub change_parts-returns-in-Some-clause-runs : goal.change_parts-returns-in-Some-clause-runs
+change_parts-returns-in-Some-clause-runs t c = λ inputs level.
+    let p = c.args.self.now in
+    let v = view c.args.value.now in
+    let r = path_run p inputs level (named c.args.paths.now) v in
+    let g = part_run p inputs level (named c.args.update.now) in
+    let all : gathered r ≡ one (plain (array (items_of (view c.in-Some.path.now ∷ [])))) =
+    c.in_ok-found.ensures inputs level ∙ ap (λ (xs : List Val). one (plain (array (items_of (map view xs))))) (sym c.as_slice.ensures.value ∙ c.in-Some.ensures) in
+    subst (Changed c.change_one.result (view c.change_one.new.value)) (sym (known_paths level g r (view c.in-Some.path.now ∷ []) v all)) (c.change_one.ensures.runs inputs level)
+
+pub change_parts-returns-in_default-clause-runs : goal.change_parts-returns-in_default-clause-runs
+change_parts-returns-in_default-clause-runs t c = λ inputs level.
+    let p = c.args.self.now in
+    let v = view c.args.value.now in
+    let r = path_run p inputs level (named c.args.paths.now) v in
+    let g = part_run p inputs level (named c.args.update.now) in
+    let all : gathered r ≡ one (plain (array (items_of (map view c.as_slice-2.result.now)))) =
+    c.in_ok-found.ensures inputs level ∙ ap (λ (xs : List Val). one (plain (array (items_of (map view xs))))) (sym c.as_slice-2.ensures.value) in
+    subst (Changed c.change_copied.result (view c.change_copied.new.value)) (sym (known_paths level g r (map view c.as_slice-2.result.now) v all)) (c.change_copied.ensures.runs inputs level)
+
+pub paths_of-returns-in-Ok-clause-found : goal.paths_of-returns-in-Ok-clause-found
+paths_of-returns-in-Ok-clause-found t c = λ inputs level.
+    let go : Item → Run Item = run c.args.self.now inputs level (named c.args.tree.now) in
+    let r : Run Item = path_run c.args.self.now inputs level (named c.args.tree.now) (view c.args.value.now) in
+    gathered_list inputs level 1048576 (tt {0}) c.new-paths.result.items c.gather.new.into.items r c.new-paths.ensures.items
+    (subst (Gathers (made inputs level (rest.End 1048576)) c.gather.result c.new-paths.result.items c.gather.new.into.items)
+    (ap (λ (x : Item). bind (go x) (λ y. bind (path_item y) one)) c.in_ok-start.ensures ∙ sym (paths-rest (go (located (view c.args.value.now) [])) one))
+    (c.in-Ok.ensures inputs level))
+
+pub change_one-returns-in-Ok-clause-runs : goal.change_one-returns-in-Ok-clause-runs
+change_one-returns-in-Ok-clause-runs t c = λ inputs level.
+    let g = part_run c.args.self.now inputs level (named c.args.update.now) in
+    let go : Value → Value → Run Item = turns level g [] Done in
+    subst (Changed c.delete_listed.result (view c.delete_listed.new.value))
+    (sym (subst (λ (xs : List Val). turn_of level g (view c.args.path.now) (view c.args.value.now) (listed xs) go ≡ go (view c.change_part.new.value) (listed c.change_part.new.without.items)) c.new-without.ensures.items
+    (c.in-Ok.ensures.turn inputs level go)))
+    c.delete_listed.ensures.runs
+
+pub change_one-returns-in-Err-clause-runs : goal.change_one-returns-in-Err-clause-runs
+change_one-returns-in-Err-clause-runs t c = λ inputs level.
+    let g = part_run c.args.self.now inputs level (named c.args.update.now) in
+    let go : Value → Value → Run Item = turns level g [] Done in
+    subst (λ (xs : List Val). Ends c.in-Err.stop (turn_of level g (view c.args.path.now) (view c.args.value.now) (listed xs) go)) c.new-without.ensures.items
+    (c.in-Err.ensures.turn inputs level go)
+
+pub change_part-returns-in-Ok-clause-turn : goal.change_part-returns-in-Ok-clause-turn
+change_part-returns-in-Ok-clause-turn t c = λ inputs level go.
+    let v = view c.args.value.now in
+    let g = part_run c.args.self.now inputs level (named c.args.update.now) in
+    let got = getpath_keys v c.args.path.now c.in-List.keys c.as_slice.result.now c.in-List.is c.as_slice.ensures ∙ c.in-Some.ensures in
+    turn_sets level v (listed c.args.without.now.items) (view c.args.path.now) go g (view c.in-Some.part) got c.put_at.result (view c.change_first.new.value) (view c.put_at.new.value)
+    (c.in-Ok.ensures.runs inputs (suc level)) c.put_at.ensures.runs
+
+pub change_part-returns-in_ok-add_copy-in-Err-Nothing-clause-turn : goal.change_part-returns-in_ok-add_copy-in-Err-Nothing-clause-turn
+change_part-returns-in_ok-add_copy-in-Err-Nothing-clause-turn t c = λ inputs level go.
+    let v = view c.args.value.now in
+    let g = part_run c.args.self.now inputs level (named c.args.update.now) in
+    let got = getpath_keys v c.args.path.now c.in-List.keys c.as_slice.result.now c.in-List.is c.as_slice.ensures ∙ c.in-Some.ensures in
+    turn_lists level v (listed c.args.without.now.items) (view c.args.path.now) go g (view c.in-Some.part) got (listed c.add_copy.new.without.items)
+    ((rw c.in-Err-Nothing.field-0-is at c.in-Err-Nothing.ensures.runs) inputs (suc level))
+    (listed_more (map view c.args.without.now.items) (map view c.add_copy.new.without.items) (view c.args.path.now) c.in_ok-add_copy-in-Err-Nothing.ensures)
+
+pub change_part-returns-in-Err-Raised-clause-turn : goal.change_part-returns-in-Err-Raised-clause-turn
+change_part-returns-in-Err-Raised-clause-turn t c = λ inputs level go.
+    let v = view c.args.value.now in
+    let g = part_run c.args.self.now inputs level (named c.args.update.now) in
+    let got = getpath_keys v c.args.path.now c.in-List.keys c.as_slice.result.now c.in-List.is c.as_slice.ensures ∙ c.in-Some.ensures in
+    turn_raises level v (listed c.args.without.now.items) (view c.args.path.now) go g (view c.in-Some.part) got (view c.in-Err-Raised.error)
+    ((rw c.in-Err-Raised.field-0-is at c.in-Err-Raised.ensures.runs) inputs (suc level))

@@ -1,10 +1,14 @@
-use Rattle.std.proofs.Common.{ℕ, ◌+◌, ◌*◌, pos, List, length, Result}
-use Rattle.jv_meaning.specs.Value.{Value}
+use Rattle.std.proofs.Common.{◌≡◌, ℕ, ◌+◌, ◌*◌, pos, List, [], drop, length, map, Result}
+use Rattle.jv_meaning.specs.Value.{Value, array, items_of}
+use Rattle.jv_data.specs.View.{view}
 use Rattle.jv_data.specs.declared.values.Val.{Val}
-use Rattle.jq_meaning.specs.Runs.{Run, bind}
+use Rattle.jq_ast.specs.Named.{named}
+use Rattle.jq_meaning.specs.Runs.{Done, Run, bind}
+use Rattle.jq_update_laws.specs.laws.Updating.{turns}
 use Rattle.jq_meaning.specs.Builtins.{numbers_up_to}
 use Rattle.jq_single.specs.declared.stops.Stop.{Stop}
 use Rattle.jq_single.specs.private.Gathering.{Gathers, given_of, made, numbers_from, rest_run}
+use Rattle.jq_single.specs.private.Updates.{listed, part_run}
 use Rattle.jq_single.proofs.contexts.Context.+single.Given as goal
 
 -- the fuel, with an offset so that a helper has a smaller measure than its caller
@@ -294,5 +298,5 @@ decreases-give_numbers-loop-value l = length (numbers_from l.next l.end).items
 abbrev pub invariant-change_each-loop-path : goal.invariant-change_each-loop-path
 invariant-change_each-loop-path l =
     (inputs : Run Value) (level : ℕ)
-    → turns level (part_run l.self.now inputs level (named l.update.now)) (map view (drop l.path-index l.paths)) Done (view l.value) (listed l.without.items)
-    ≡ turns level (part_run l.self.now inputs level (named l.update.now)) (map view l.paths) Done (view l.initial.value) (array (items_of []))
+    → turns level (part_run l.self inputs level (named l.update)) (map view (drop l.path-index l.paths)) Done (view l.value) (listed l.without.items)
+    ≡ turns level (part_run l.self inputs level (named l.update)) (map view l.paths) Done (view l.initial.value) (array (items_of []))
