@@ -14,15 +14,17 @@ use Rattle.jv_value.specs.GetPath.{getpath_of}
 use Rattle.jq_ast.specs.Named.{name_of, named}
 use Rattle.jq_ast.specs.declared.names.Modify.{Modify}
 use Rattle.jq_ast.specs.declared.tree.Tree as ast
-use Rattle.jq_tree.specs.Tree.{Tree, trees_of}
+use Rattle.jq_tree.specs.Tree.{Name, Tree, Trees, no_trees, more_trees, trees_of}
 use Rattle.jq_tree.specs.Tree as tree
 use Rattle.jq_tree.specs.WrittenOut.{modify}
 use Rattle.jq_natives.specs.Answers.{Answer}
 use Rattle.jq_natives.specs.PathNatives.{getpath_native_of, setpath_native_of}
 use Rattle.jq_meaning.specs.Builtins.{values_in_array}
-use Rattle.jq_meaning.specs.Env.{Env}
+use Rattle.jq_meaning.specs.Env.{Env, bound, closure, with_arguments}
 use Rattle.jq_meaning.specs.Meaning.{meaning}
 use Rattle.jq_meaning.specs.Runs.{Item, plain, located, value_in, Ending, Done, Raised, Broken, Stopped, Run, none, one, fail, gathered, answered, paths_in}
+use Rattle.jq_update_laws.specs.Known.{HasModify}
+use Rattle.jq_update_laws.specs.laws.Updates.{ModifyStays}
 use Rattle.jq_update_laws.specs.laws.Updating.{with_answer, on_outputs, turn_of, turns, updated, update_run}
 use Rattle.jq_single.specs.Single.{Changed, Ends}
 use Rattle.jq_single.specs.declared.stops.Stop.{Stop}
@@ -47,6 +49,12 @@ modify_tree m ts a b e h k =
 pub two_calls_deep : (depth d : ℕ) (f g : Tree) (e : Env) (k : ℕ) (v : Value) → depth ≡ suc (suc d)
     → update_run depth f g e k (plain v) ≡ updated k (paths_in (meaning d f e k (located v []))) (λ w. meaning d g e (suc k) (plain w)) (plain v)
 two_calls_deep depth d f g e k v h = ap (λ n. update_run n f g e k (plain v)) h
+
+-- the arguments of a call leave `_modify` alone
+pub modify_in_call : ModifyStays → (ps : List Name) (ts : Trees) (caller own : Env) → HasModify own → HasModify (with_arguments ps ts caller own)
+modify_in_call stays [] ts caller own h = h
+modify_in_call stays (p ∷ ps) no_trees caller own h = h
+modify_in_call stays (p ∷ ps) (more_trees t ts) caller own h = modify_in_call stays ps ts caller (bound (closure p t caller) own) (stays (closure p t caller) own h)
 
 -- ---- the paths
 
