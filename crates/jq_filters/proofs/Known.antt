@@ -1,5 +1,5 @@
 -- The prelude's `_modify` in the bindings of a program.
-use Rattle.std.proofs.Common.{◌≡◌, ◌∙◌, ℕ, suc, ◌+◌, List, [], ◌∷◌, ◌++◌, length, map, reverse, take, codes, refl, sym, ap, subst, arith}
+use Rattle.std.proofs.Common.{◌≡◌, ◌∙◌, ℕ, suc, ◌+◌, List, [], ◌∷◌, ◌++◌, Option, Some, None, IfSome, length, map, reverse, take, codes, refl, sym, ap, subst, arith}
 use Rattle.std.specs.Prelude.{if◌then◌else◌}
 use Rattle.std.proofs.lemmas.List.{length-map, length-reverse}
 use Rattle.jv_meaning.specs.Value.{Value}
@@ -11,6 +11,7 @@ use Rattle.jq_bindings.specs.laws.Added.{functions_before}
 use Rattle.jq_meaning.specs.Env.{Env, Binding, Callee, outermost, bound, value_of, function, found_function, no_callee, callee_or, find_callee, find_in_prelude, is_named, with_variables}
 use Rattle.jq_meaning.specs.Runs.{Run}
 use Rattle.jq_resolver.specs.Programs.{named_program}
+use Rattle.jq_state.specs.Modify.{KnowsModify}
 use Rattle.jq_syntax.proofs.Computing.{computing_prelude}
 use Rattle.jq_syntax.specs.laws.Computed.{prelude}
 use Rattle.jq_tree.specs.Prelude.{followed_by}
@@ -130,3 +131,8 @@ around-functions vs fs inputs h =
 
 pub modify_is_known : ModifyIsKnown
 modify_is_known vs fs h = λ inputs. subst (λ e. HasModifyOf e e) (sym (around-functions vs fs inputs h)) (has-modify vs inputs)
+
+pub known_if_found : (vs : List (Name × Value)) (fs : List (Function ast.Tree)) (n : ℕ) (r : Option ℕ) → map function_binding fs ≡ functions_before prelude → n ≡ length vs → IfSome r (λ count. count ≡ n + 36)
+    → KnowsModify (bindings_of vs fs) r
+known_if_found vs fs n None h e i = tt
+known_if_found vs fs n (Some count) h e i = subst (λ k. KnowsModify (bindings_of vs fs) (Some k)) (sym (i ∙ ap (λ k. k + 36) e)) (modify_is_known vs fs h)

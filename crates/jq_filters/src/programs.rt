@@ -1,5 +1,5 @@
 // Programs in the form that the engine takes.
-ghost use Rattle.std.specs.Prelude.{◌≡◌, ◌++◌, IfOk, OnOk, map, reverse};
+ghost use Rattle.std.specs.Prelude.{◌≡◌, ◌+◌, ◌++◌, IfOk, IfSome, OnOk, map, reverse};
 ghost use Rattle.jq_syntax.specs.Chosen.{variables_of};
 ghost use Rattle.jq_state.specs.Listed.{items_in};
 ghost use Rattle.jq_state.specs.Nodes.{program_binding};
@@ -28,14 +28,22 @@ pub fn bindings_of(
 {
     functions_are_the_preludes();
     the_prelude_has_modify();
-    let modify = match u32::try_from(variables.len() + UP_TO_MODIFY) {
-        Ok(count) => Some(count),
-        Err(_) => None,
-    };
+    let modify = up_to_modify(variables.len());
     let mut bindings = Vec::with_capacity(alloc, variables.len())?;
     add_variables(&mut bindings, variables)?;
     add_functions(&mut bindings, functions)?;
     ProgramBindings::with_modify(alloc, bindings, modify)
+}
+
+// The number of bindings up to `_modify`, after so many variables, unless it is too large.
+fn up_to_modify(variables: usize) -> Option<u32>
+    ensures { IfSome result (λ count. count ≡ variables + 36) }
+{
+    let count = variables.checked_add(UP_TO_MODIFY)?;
+    match u32::try_from(count) {
+        Ok(count) => Some(count),
+        Err(_) => None,
+    }
 }
 
 fn add_variables(
