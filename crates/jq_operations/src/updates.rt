@@ -13,7 +13,7 @@ use jq_update_laws::laws::the_preludes_update_stays;
 /// Whether it is known of an environment that `f |= g` calls the prelude's `_modify` in it.
 pub fn has_modify(nodes: &Nodes<'_>, env: u32) -> bool
     requires { env < count_of nodes.now }
-    ensures { IsTrue result → (inputs : Run Value) → HasModify (env_at (envs_of inputs nodes.now) env) }
+    ensures { IsTrue result → (inputs : Run Value) → ∥ HasModify (env_at (envs_of inputs nodes.now) env) ∥₁ }
 {
     the_preludes_update_stays();
     let mut at = env;
@@ -26,7 +26,7 @@ pub fn has_modify(nodes: &Nodes<'_>, env: u32) -> bool
 // The same of an environment of the program.
 fn is_inside_modify(nodes: &Nodes<'_>, env: u32) -> bool
     requires { env ≤ length (program_of nodes.now) }
-    ensures { IsTrue result → (inputs : Run Value) → HasModify (env_at (envs_of inputs nodes.now) env) }
+    ensures { IsTrue result → (inputs : Run Value) → ∥ HasModify (env_at (envs_of inputs nodes.now) env) ∥₁ }
 {
     the_preludes_update_stays();
     program_is_a_list(nodes);

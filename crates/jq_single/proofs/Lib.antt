@@ -5,5 +5,6 @@ pub mod Gathered
 pub mod Folded
 pub mod Located
 pub mod FirstOutputs
+pub mod Sets
 pub mod Updating
 pub mod Passed

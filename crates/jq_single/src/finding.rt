@@ -121,7 +121,7 @@ fn of_the_run<'s>(nodes: &'s Nodes<'s>, callee: Callee<'s>) -> Found<'s>
 
 /// Whether it is known of a scope that `f |= g` calls the prelude's `_modify` in it.
 pub(crate) fn has_modify(scope: &Scope<'_>) -> bool
-    ensures { IsTrue result → (inputs : Run Value) → HasModify (scope_env inputs scope.now) }
+    ensures { IsTrue result → (inputs : Run Value) → ∥ HasModify (scope_env inputs scope.now) ∥₁ }
 {
     the_preludes_update_stays();
     match scope {
@@ -133,7 +133,7 @@ pub(crate) fn has_modify(scope: &Scope<'_>) -> bool
 }
 
 fn modify_of_the_run(outside: &Outside<'_>) -> bool
-    ensures { IsTrue result → (inputs : Run Value) → HasModify (env_at (envs_of inputs outside.now.nodes.now) outside.now.env) }
+    ensures { IsTrue result → (inputs : Run Value) → ∥ HasModify (env_at (envs_of inputs outside.now.nodes.now) outside.now.env) ∥₁ }
 {
     jq_operations::has_modify(outside.nodes, outside.env)
 }

@@ -26,7 +26,7 @@ pub struct ProgramBindings {
     ghost places: { length earlier.items ≡ length items.items },
     ghost chains: { Latest (map bucket_of items.items) (length items.items) latest.items } by { Prim.hlevel props },
     ghost links: { Earlier (map bucket_of items.items) earlier.items } by { Prim.hlevel props },
-    ghost known: { KnowsModify (map program_binding items.items) modify } by { Prim.hlevel props },
+    ghost known: { ∥ KnowsModify (map program_binding items.items) modify ∥₁ },
 }
 
 impl ProgramBindings {
@@ -71,7 +71,7 @@ impl ProgramBindings {
     /// The number of bindings up to the prelude's `_modify`, if this is known.
     #[inline(always)]
     pub fn modify(&self) -> Option<u32>
-        ensures { KnowsModify (bindings_in self.now) result }
+        ensures { ∥ KnowsModify (bindings_in self.now) result ∥₁ }
     {
         self.modify
     }

@@ -1,5 +1,6 @@
 use Rattle.std.proofs.Common.{rules, to_z, of_z, w64, Ok, Err, [], ◌∷◌, List, ℕ, suc, codes, ◌≡◌, ◌∙◌, ◌-◌, arith, length, map, true, false, refl, sym, ap, subst}
 use Rattle.std.proofs.lemmas.Int.{to_z-of_z}
+use Rattle.std.proofs.Math.Logic.{∥∥₁_elim}
 use Rattle.std.specs.Str.{chars}
 use Rattle.jv_data.specs.Held.{members_in}
 use Rattle.jv_data.proofs.shared.Levels.{view-Bool, view-List}
@@ -12,6 +13,7 @@ use Rattle.jv_data.specs.declared.values.Val.{Val}
 use Rattle.jq_ast.specs.Leaves.{key_of, operator_of}
 use Rattle.jq_ast.specs.Named.{name_of, named, named_as_pattern, named_entry}
 use Rattle.jq_ast.proofs.shared.Forms.{named-Call, named-PreludeCall, named-Update, named-Object, named-Text, named-Whole}
+use Rattle.jq_tree.specs.Tree as form
 use Rattle.jq_tree.specs.Tree.{Entry, Tree, bind_as, more_entries, object, reduce, text, trees_of, whole}
 use Rattle.jq_operations.specs.Language.{meaning_of}
 use Rattle.jq_machine.specs.Operations.{path_item}
@@ -35,16 +37,17 @@ use Rattle.jq_state.specs.Items.{item_of}
 use Rattle.jq_state.proofs.shared.Items.{absent, value_of_item}
 use Rattle.jq_single.specs.private.Making.{entries_in}
 use Rattle.jq_single.specs.private.Updates.{listed, part_run, path_run}
-use Rattle.jq_update_laws.specs.Known.{HasModify}
-use Rattle.jq_update_laws.specs.laws.Updating.{turns}
+use Rattle.jq_update_laws.specs.laws.Updating.{turn_of, turns}
 use Rattle.jq_single.specs.private.FirstOutputs.{first_alone}
 use Rattle.jq_single.specs.private.Parts.{Answers, builtin_in, run}
 use Rattle.jq_single.specs.Single.{Changed, Ends}
 use Rattle.jq_single.proofs.Binding.{bind-known, ends-bind, ends-after, answers-bind, changed-bind, changed_holds, changed_fails, changed-stops, goes-changed, keeps-stops, leaves_same, stops, untold, and_goes, and_stops, or_goes, or_stops, truth_of, test_holds, test_fails, caught, with_variable, text-bind, text-stops}
 use Rattle.jq_single.specs.declared.rests.Rest.{Rest}
+use Rattle.jq_single.specs.declared.rests.Rest.TheVariants as rest
 use Rattle.jq_single.proofs.Gathered.{gathers-none, gathers-then, gathers-fail, gathers_all, gives_first, stops_first, stops-then, gathered_list, ends_gathered, bound_rest, picks_holds, picks_fails}
 use Rattle.jq_single.proofs.Folded.{fold_value, turned, fold_ends, single_fold}
 use Rattle.jq_single.proofs.FirstOutputs.{answers-first, changed-first, first-then}
+use Rattle.jq_single.proofs.Sets.{changed-prop}
 use Rattle.jq_single.proofs.Updating.{first_turn, getpath_keys, known_paths, listed_more, modify_tree, turn_lists, turn_raises, turn_sets, two_calls_deep}
 use Rattle.jq_single.proofs.Located.{path_given, path_of_builtin, paths-rest}
 use Rattle.jq_single.proofs.Bodies.{body_runs, builtin_runs, closure_runs, function_runs, named-Identity, prelude_runs}
@@ -1134,11 +1137,16 @@ change_update-returns-in-len2-clause-runs t c = λ inputs level.
     let d = p.depth - 2 in
     let deep : p.depth ≡ suc (suc d) = omega arith in
     let two : length c.args.parts.now ≡ 2 = omega (arith, c.in-len2.len_at_least, c.in-len2.len_below) in
-    let has : HasModify e = c.has_modify.ensures (search rules) inputs in
-    subst (Changed c.change_parts.result (view c.change_parts.new.value))
+    let a = c.change_parts.result in
+    let w = view c.change_parts.new.value in
+    let tree = form.prelude_call (name_of c.args.modify.now.name) (trees_of (map named c.args.parts.now)) in
+    let whole : Run Item = run p inputs level tree (plain v) in
+    ∥∥₁_elim (c.has_modify.ensures (search rules) inputs) (changed-prop a w whole)
+    (λ has.
+    subst (Changed a w)
     (sym (ap (λ u. run p inputs level u (plain v)) (modify_tree c.args.modify.now c.args.parts.now c.paths-item.result c.update-item.result two c.paths-item.is c.update-item.is)
     ∙ c.an_update_is_its_turns.ensures p.depth f g e level (plain v) has ∙ two_calls_deep p.depth d f g e level v deep))
-    (c.change_parts.ensures.runs inputs level)
+    (c.change_parts.ensures.runs inputs level))
 
 pub change_parts-returns-in-Some-clause-runs : goal.change_parts-returns-in-Some-clause-runs
 change_parts-returns-in-Some-clause-runs t c = λ inputs level.
