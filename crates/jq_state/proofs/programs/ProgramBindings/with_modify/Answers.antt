@@ -30,3 +30,6 @@ loop-item-preserved c =
       chains = subst (λ z. Latest bs (k + 1) (set latest b z)) (sym next) (more_chains bs k b latest l own i.chains);
       links = subst (Earlier bs) (sym pushed) (more_links bs k b latest earlier within i.places own i.chains i.links);
     }
+
+pub invariant_of-result-clause-known : goal.invariant_of-result-clause-known
+invariant_of-result-clause-known c = ∣ c.requires ∣₁
