@@ -33,3 +33,15 @@ loop-item-preserved c =
 
 pub invariant_of-result-clause-known : goal.invariant_of-result-clause-known
 invariant_of-result-clause-known c = ∣ c.requires ∣₁
+
+pub invariant_of-result-clause-chains : goal.invariant_of-result-clause-chains
+invariant_of-result-clause-chains c =
+    let items = c.as_slice-item-items.result.now in
+    let latest = c.loop-item.latest.items in
+    let end : c.loop-item.item-index ≡ length items = first_of (omega arith, omega (arith, c.loop-item-test.false, c.loop-item.auto.item-index-end)) in
+    subst (λ xs. Latest (map bucket_of xs) (length xs) latest) c.as_slice-item-items.ensures.value
+    (subst (λ n. Latest (map bucket_of items) n latest) end c.loop-item.invariant.chains)
+
+pub invariant_of-result-clause-links : goal.invariant_of-result-clause-links
+invariant_of-result-clause-links c =
+    subst (λ xs. Earlier (map bucket_of xs) c.loop-item.earlier.items) c.as_slice-item-items.ensures.value c.loop-item.invariant.links
