@@ -1,6 +1,6 @@
 pub mod CoreCalls
 pub mod Programs
-pub mod Updates
+pub mod KnownUpdates
 pub mod Binding
 pub mod Transitions
 pub mod Coming

@@ -6,5 +6,5 @@ pub mod Folded
 pub mod Located
 pub mod FirstOutputs
 pub mod Sets
-pub mod Updating
+pub mod UpdateTurns
 pub mod Passed

@@ -7,7 +7,7 @@ use Rattle.jq_tree.specs.Tree.{trees_of}
 use Rattle.jq_meaning.specs.Env as env
 use Rattle.jq_update_laws.specs.Known.{HasModify}
 use Rattle.jq_single.specs.private.Scopes.{scope_env}
-use Rattle.jq_single.proofs.Updating.{modify_in_call}
+use Rattle.jq_single.proofs.UpdateTurns.{modify_in_call}
 use Rattle.jq_single.proofs.finding.+has_modify.Goals as goal
 
 pub returns-in-Run : goal.returns-in-Run
