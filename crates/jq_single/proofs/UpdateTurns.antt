@@ -91,6 +91,13 @@ answer_goes (Err (stop.Raised x)) w (Err e) go h = h
 answer_goes (Err stop.NoMemory) w b go h = tt
 answer_goes (Err stop.Unknown) w b go h = tt
 
+-- endings of different kinds differ
+abbrev kind : Ending → ℕ
+kind Done = 0
+kind (Raised v) = 1
+kind (Broken l) = 2
+kind (Stopped s) = 3
+
 module _ (k : ℕ) (x ds p : Value) (go : Value → Value → Run Item) where
   set : (ys : List Item) (f : Ending) (w : Value) → first_alone (record { items = ys; ending = f }) ≡ one (plain w) → on_outputs k x ds p (record { items = ys; ending = f }) go ≡ with_answer (setpath_native_of x p w) (λ y. go y ds)
   set [] f w h = let c = ap (λ (q : Run Item). length q.items) h in absurd (omega (arith, c))
@@ -102,16 +109,16 @@ module _ (k : ℕ) (x ds p : Value) (go : Value → Value → Run Item) where
   kept : (ys : List Item) (f : Ending) → first_alone (record { items = ys; ending = f }) ≡ none
       → on_outputs k x ds p (record { items = ys; ending = f }) go ≡ with_answer (add_of ds (array (items_of (p ∷ [])))) (go x)
   kept [] Done h = refl
-  kept [] (Raised e) h = absurd (cc h)
-  kept [] (Broken l) h = absurd (cc h)
-  kept [] (Stopped s) h = absurd (cc h)
+  kept [] (Raised e) h = let c = ap (λ (q : Run Item). kind q.ending) h in absurd (omega (arith, c))
+  kept [] (Broken l) h = let c = ap (λ (q : Run Item). kind q.ending) h in absurd (omega (arith, c))
+  kept [] (Stopped s) h = let c = ap (λ (q : Run Item). kind q.ending) h in absurd (omega (arith, c))
   kept (y ∷ ys) f h = let c = ap (λ (q : Run Item). length q.items) h in absurd (omega (arith, c))
 
   raised : (ys : List Item) (f : Ending) (e : Value) → first_alone (record { items = ys; ending = f }) ≡ fail e → on_outputs k x ds p (record { items = ys; ending = f }) go ≡ fail e
-  raised [] Done e h = absurd (cc h)
+  raised [] Done e h = let c = ap (λ (q : Run Item). kind q.ending) h in absurd (omega (arith, c))
   raised [] (Raised v) e h = h
-  raised [] (Broken l) e h = absurd (cc h)
-  raised [] (Stopped s) e h = absurd (cc h)
+  raised [] (Broken l) e h = let c = ap (λ (q : Run Item). kind q.ending) h in absurd (omega (arith, c))
+  raised [] (Stopped s) e h = let c = ap (λ (q : Run Item). kind q.ending) h in absurd (omega (arith, c))
   raised (y ∷ ys) f e h = let c = ap (λ (q : Run Item). length q.items) h in absurd (omega (arith, c))
 
   module _ (g : Value → Run Item) (part : Value) (got : getpath_native_of x p ≡ Ok part) where

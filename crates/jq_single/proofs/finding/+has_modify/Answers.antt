@@ -16,7 +16,7 @@ returns-in-Run t c = λ h inputs. subst (λ e. ∥ HasModify e ∥₁) (sym (ap 
 pub returns-in-Value : goal.returns-in-Value
 returns-in-Value t c = λ h inputs.
     subst (λ e. ∥ HasModify e ∥₁) (sym (ap (scope_env inputs) c.in-Value.is))
-    (∥∥₁_map (c.has_modify-in-Value.ensures h inputs)
+    (∥∥₁_map (c.has_modify.ensures h inputs)
     (c.the_preludes_update_stays.ensures (env.value_of (text_of c.in-Value.field-1.now) (view c.in-Value.field-2.now)) (scope_env inputs c.in-Value.outer.now)))
 
 pub returns-in-Function : goal.returns-in-Function

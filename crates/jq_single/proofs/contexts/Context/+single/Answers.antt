@@ -26,7 +26,7 @@ use Rattle.jq_natives.specs.PathNatives.{getpath_native_of}
 use Rattle.jq_meaning.specs.Folds.{next_state, reduced}
 use Rattle.jq_meaning.specs.Meaning.{arguments_with, below, bindings_with, meaning, pieces_with}
 use Rattle.jq_meaning.specs.Continuations.{on_source, on_state, on_target, on_key, on_start, on_end, on_entry, on_entry_key, on_back, on_inserted, format_of, on_left, on_right, negated, truth, on_conjunct, on_disjunct, on_test, on_error}
-use Rattle.jq_meaning.specs.Runs.{Run, Item, plain, located, as_value, value_in, none, one, fail, alternative, then_run, bind, catch, gathered}
+use Rattle.jq_meaning.specs.Runs.{Done, Run, Item, plain, located, as_value, value_in, none, one, fail, alternative, then_run, bind, catch, gathered}
 use Rattle.jq_single.specs.private.Scopes.{scope_env}
 use Rattle.jq_operations.specs.Outputs.{Inserts, outputs_of}
 use Rattle.jq_operations.specs.Pieces.{named_pieces}
@@ -96,7 +96,7 @@ index-returns t c = λ inputs level.
     let v = plain (view c.args.value.now) in
     let go : Tree → Item → Run Item = run c.args.self.now inputs level in
     answers-bind c.part_at.result (go (named c.args.key.now) v) (plain (view c.in_ok-at.at)) (on_key c.args.guarded (go (named c.args.target.now) v)) (c.in_ok-at.ensures inputs level)
-    (answers-bind c.part_at.result (go (named c.args.target.now) v) (plain (view c.in_ok-found.found)) (on_target c.args.guarded (view c.in_ok-at.at)) (c.in_ok-found.ensures inputs level) c.part_at.ensures)
+    (answers-bind c.part_at.result (go (named c.args.target.now) v) (plain (view c.in_ok-found.found)) (on_target c.args.guarded (view c.in_ok-at.at)) (c.in_ok-found.ensures.found inputs level) c.part_at.ensures)
 
 pub index-returns-in_err-at : goal.index-returns-in_err-at
 index-returns-in_err-at t c = λ inputs level.
@@ -124,7 +124,7 @@ slice-returns t c = λ inputs level.
     answers-bind c.part_at.result (go (named c.args.from.now)) (plain (view c.in_ok-start.start)) (on_start c.args.guarded ends targets) (c.in_ok-start.ensures inputs level)
     (answers-bind c.part_at.result ends (plain (view c.in_ok-end.end)) (on_end c.args.guarded targets (view c.in_ok-start.start)) (c.in_ok-end.ensures inputs level)
     (subst (λ (k : Value). Answers c.part_at.result (bind targets (on_target c.args.guarded k))) c.in_ok-bounds.ensures
-    (answers-bind c.part_at.result targets (plain (view c.in_ok-found.found)) (on_target c.args.guarded (view c.in_ok-bounds.bounds)) (c.in_ok-found.ensures inputs level) c.part_at.ensures)))
+    (answers-bind c.part_at.result targets (plain (view c.in_ok-found.found)) (on_target c.args.guarded (view c.in_ok-bounds.bounds)) (c.in_ok-found.ensures.found inputs level) c.part_at.ensures)))
 
 pub slice-returns-in_err-start : goal.slice-returns-in_err-start
 slice-returns-in_err-start t c = λ inputs level.
@@ -906,7 +906,7 @@ first_piece-returns t c = λ inputs level.
     let expected = format_of f (view c.in_ok-found.found) in
     let made = c.in_ok-text_in_format.field-0 in
     text-bind c.inserted.result later back (on_back f front filter) (c.in_ok-back.ensures inputs level)
-    (text-bind c.inserted.result filter (plain (view c.in_ok-found.found)) (on_inserted f front back) (c.in_ok-found.ensures inputs level)
+    (text-bind c.inserted.result filter (plain (view c.in_ok-found.found)) (on_inserted f front back) (c.in_ok-found.ensures.found inputs level)
     (c.inserted.ensures front back expected (subst (λ (bs : List ℕ). Inserts (chars bs) expected back made) c.as_str-front.ensures.value (subst (λ (bs : List ℕ). Inserts (chars c.as_str-front.result.now) expected (chars bs) made) c.as_str.ensures c.in_ok-text_in_format.ensures))))
 
 pub first_piece-returns-in_err-back : goal.first_piece-returns-in_err-back
@@ -957,7 +957,7 @@ computed-returns t c = λ inputs level.
     let later : Members → Run Item = entries_in p inputs level (named_entries c.args.later.now) v in
     let filter = run p inputs level (named c.args.filter.now) (plain v) in
     answers-bind c.keyed.result (run p inputs level (named c.args.key.now) (plain v)) (plain (view c.in_ok-found.found)) (on_entry_key filter later (members_in c.args.made))
-    (c.in_ok-found.ensures inputs level) (c.keyed.ensures inputs level)
+    (c.in_ok-found.ensures.found inputs level) (c.keyed.ensures inputs level)
 
 pub keyed-returns : goal.keyed-returns
 keyed-returns t c = λ inputs level. rw c.into_text.ensures (c.member.ensures inputs level)
@@ -979,7 +979,7 @@ member-returns t c = λ inputs level.
     let later : Members → Run Item = entries_in p inputs level (named_entries c.args.later.now) v in
     let filter = run p inputs level (named c.args.filter.now) (plain v) in
     answers-bind c.entries.result filter (plain (view c.in_ok-found.found)) (on_entry later (members_in c.args.made) (text_in c.args.key.now))
-    (c.in_ok-found.ensures inputs level)
+    (c.in_ok-found.ensures.found inputs level)
     (subst (λ (m : Members). Answers c.entries.result (later m)) c.in_ok-longer.ensures (c.entries.ensures inputs level))
 
 pub member-returns-in_err-found : goal.member-returns-in_err-found
@@ -1127,8 +1127,8 @@ first_of_two-returns-in-Err-Raised t c = λ inputs level.
 
 -- ---- updates
 
-pub change_update-returns-in-len2-clause-runs : goal.change_update-returns-in-len2-clause-runs
-change_update-returns-in-len2-clause-runs t c = λ inputs level.
+pub change_update-returns-else-not-has_modify-clause-runs : goal.change_update-returns-else-not-has_modify-clause-runs
+change_update-returns-else-not-has_modify-clause-runs t c = λ inputs level.
     let p = c.args.self.now in
     let e = scope_env inputs p.scope.now in
     let v = view c.args.value.now in
@@ -1155,17 +1155,17 @@ change_parts-returns-in-Some-clause-runs t c = λ inputs level.
     let r = path_run p inputs level (named c.args.paths.now) v in
     let g = part_run p inputs level (named c.args.update.now) in
     let all : gathered r ≡ one (plain (array (items_of (view c.in-Some.path.now ∷ [])))) =
-    c.in_ok-found.ensures inputs level ∙ ap (λ (xs : List Val). one (plain (array (items_of (map view xs))))) (sym c.as_slice.ensures.value ∙ c.in-Some.ensures) in
+    c.in_ok-found.ensures.found inputs level ∙ ap (λ (xs : List Val). one (plain (array (items_of (map view xs))))) (sym c.as_slice.ensures.value ∙ c.in-Some.ensures) in
     subst (Changed c.change_one.result (view c.change_one.new.value)) (sym (known_paths level g r (view c.in-Some.path.now ∷ []) v all)) (c.change_one.ensures.runs inputs level)
 
-pub change_parts-returns-in_default-clause-runs : goal.change_parts-returns-in_default-clause-runs
-change_parts-returns-in_default-clause-runs t c = λ inputs level.
+pub change_parts-returns-clause-runs : goal.change_parts-returns-clause-runs
+change_parts-returns-clause-runs t c = λ inputs level.
     let p = c.args.self.now in
     let v = view c.args.value.now in
     let r = path_run p inputs level (named c.args.paths.now) v in
     let g = part_run p inputs level (named c.args.update.now) in
     let all : gathered r ≡ one (plain (array (items_of (map view c.as_slice-2.result.now)))) =
-    c.in_ok-found.ensures inputs level ∙ ap (λ (xs : List Val). one (plain (array (items_of (map view xs))))) (sym c.as_slice-2.ensures.value) in
+    c.in_ok-found.ensures.found inputs level ∙ ap (λ (xs : List Val). one (plain (array (items_of (map view xs))))) (sym c.as_slice-2.ensures.value) in
     subst (Changed c.change_copied.result (view c.change_copied.new.value)) (sym (known_paths level g r (map view c.as_slice-2.result.now) v all)) (c.change_copied.ensures.runs inputs level)
 
 pub paths_of-returns-in-Ok-clause-found : goal.paths_of-returns-in-Ok-clause-found
@@ -1173,7 +1173,7 @@ paths_of-returns-in-Ok-clause-found t c = λ inputs level.
     let go : Item → Run Item = run c.args.self.now inputs level (named c.args.tree.now) in
     let r : Run Item = path_run c.args.self.now inputs level (named c.args.tree.now) (view c.args.value.now) in
     gathered_list inputs level 1048576 (tt {0}) c.new-paths.result.items c.gather.new.into.items r c.new-paths.ensures.items
-    (subst (Gathers (made inputs level (rest.End 1048576)) c.gather.result c.new-paths.result.items c.gather.new.into.items)
+    (subst (Gathers (made inputs level (rest.End 1048576)) (Ok (tt {0})) c.new-paths.result.items c.gather.new.into.items)
     (ap (λ (x : Item). bind (go x) (λ y. bind (path_item y) one)) c.in_ok-start.ensures ∙ sym (paths-rest (go (located (view c.args.value.now) [])) one))
     (c.in-Ok.ensures inputs level))
 
@@ -1201,8 +1201,8 @@ change_part-returns-in-Ok-clause-turn t c = λ inputs level go.
     turn_sets level v (listed c.args.without.now.items) (view c.args.path.now) go g (view c.in-Some.part) got c.put_at.result (view c.change_first.new.value) (view c.put_at.new.value)
     (c.in-Ok.ensures.runs inputs (suc level)) c.put_at.ensures.runs
 
-pub change_part-returns-in_ok-add_copy-in-Err-Nothing-clause-turn : goal.change_part-returns-in_ok-add_copy-in-Err-Nothing-clause-turn
-change_part-returns-in_ok-add_copy-in-Err-Nothing-clause-turn t c = λ inputs level go.
+pub change_part-returns-in-Err-Nothing-clause-turn : goal.change_part-returns-in-Err-Nothing-clause-turn
+change_part-returns-in-Err-Nothing-clause-turn t c = λ inputs level go.
     let v = view c.args.value.now in
     let g = part_run c.args.self.now inputs level (named c.args.update.now) in
     let got = getpath_keys v c.args.path.now c.in-List.keys c.as_slice.result.now c.in-List.is c.as_slice.ensures ∙ c.in-Some.ensures in
