@@ -328,8 +328,9 @@ change_form-returns-in-PreludeCall-clause-runs t c = λ inputs level.
 
 pub change_form-returns-in-Update-clause-runs : goal.change_form-returns-in-Update-clause-runs
 change_form-returns-in-Update-clause-runs t c = λ inputs level.
+    let parts : c.in-Update.parts.value ≡ c.deref-in-Update.result.now = search rules in
     subst (λ (u : Tree). Changed c.change_update.result (view c.change_update.new.value) (run c.args.self.now inputs level u (plain (view c.args.value.now))))
-    (sym (ap named c.in-Update.is ∙ named-Update c.in-Update.modify c.in-Update.parts)) (c.change_update.ensures.runs inputs level)
+    (sym (ap named c.in-Update.is ∙ named-Update c.in-Update.modify c.in-Update.parts ∙ ap (λ us. form.prelude_call (name_of c.in-Update.modify.name) (trees_of (map named us))) parts)) (c.change_update.ensures.runs inputs level)
 
 pub change_kept-returns-in-Err-clause-keeps : goal.change_kept-returns-in-Err-clause-keeps
 change_kept-returns-in-Err-clause-keeps t c = leaves_same c.in-Err.stop (view c.args.value.now)
