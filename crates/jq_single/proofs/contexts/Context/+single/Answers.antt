@@ -96,7 +96,7 @@ index-returns t c = λ inputs level.
     let v = plain (view c.args.value.now) in
     let go : Tree → Item → Run Item = run c.args.self.now inputs level in
     answers-bind c.part_at.result (go (named c.args.key.now) v) (plain (view c.in_ok-at.at)) (on_key c.args.guarded (go (named c.args.target.now) v)) (c.in_ok-at.ensures inputs level)
-    (answers-bind c.part_at.result (go (named c.args.target.now) v) (plain (view c.in_ok-found.found)) (on_target c.args.guarded (view c.in_ok-at.at)) (c.in_ok-found.ensures.found inputs level) c.part_at.ensures)
+    (answers-bind c.part_at.result (go (named c.args.target.now) v) (plain (view c.in_ok-found.found)) (on_target c.args.guarded (view c.in_ok-at.at)) (c.in_ok-found.ensures inputs level) c.part_at.ensures)
 
 pub index-returns-in_err-at : goal.index-returns-in_err-at
 index-returns-in_err-at t c = λ inputs level.
@@ -124,7 +124,7 @@ slice-returns t c = λ inputs level.
     answers-bind c.part_at.result (go (named c.args.from.now)) (plain (view c.in_ok-start.start)) (on_start c.args.guarded ends targets) (c.in_ok-start.ensures inputs level)
     (answers-bind c.part_at.result ends (plain (view c.in_ok-end.end)) (on_end c.args.guarded targets (view c.in_ok-start.start)) (c.in_ok-end.ensures inputs level)
     (subst (λ (k : Value). Answers c.part_at.result (bind targets (on_target c.args.guarded k))) c.in_ok-bounds.ensures
-    (answers-bind c.part_at.result targets (plain (view c.in_ok-found.found)) (on_target c.args.guarded (view c.in_ok-bounds.bounds)) (c.in_ok-found.ensures.found inputs level) c.part_at.ensures)))
+    (answers-bind c.part_at.result targets (plain (view c.in_ok-found.found)) (on_target c.args.guarded (view c.in_ok-bounds.bounds)) (c.in_ok-found.ensures inputs level) c.part_at.ensures)))
 
 pub slice-returns-in_err-start : goal.slice-returns-in_err-start
 slice-returns-in_err-start t c = λ inputs level.
@@ -907,7 +907,7 @@ first_piece-returns t c = λ inputs level.
     let expected = format_of f (view c.in_ok-found.found) in
     let made = c.in_ok-text_in_format.field-0 in
     text-bind c.inserted.result later back (on_back f front filter) (c.in_ok-back.ensures inputs level)
-    (text-bind c.inserted.result filter (plain (view c.in_ok-found.found)) (on_inserted f front back) (c.in_ok-found.ensures.found inputs level)
+    (text-bind c.inserted.result filter (plain (view c.in_ok-found.found)) (on_inserted f front back) (c.in_ok-found.ensures inputs level)
     (c.inserted.ensures front back expected (subst (λ (bs : List ℕ). Inserts (chars bs) expected back made) c.as_str-front.ensures.value (subst (λ (bs : List ℕ). Inserts (chars c.as_str-front.result.now) expected (chars bs) made) c.as_str.ensures c.in_ok-text_in_format.ensures))))
 
 pub first_piece-returns-in_err-back : goal.first_piece-returns-in_err-back
@@ -958,7 +958,7 @@ computed-returns t c = λ inputs level.
     let later : Members → Run Item = entries_in p inputs level (named_entries c.args.later.now) v in
     let filter = run p inputs level (named c.args.filter.now) (plain v) in
     answers-bind c.keyed.result (run p inputs level (named c.args.key.now) (plain v)) (plain (view c.in_ok-found.found)) (on_entry_key filter later (members_in c.args.made))
-    (c.in_ok-found.ensures.found inputs level) (c.keyed.ensures inputs level)
+    (c.in_ok-found.ensures inputs level) (c.keyed.ensures inputs level)
 
 pub keyed-returns : goal.keyed-returns
 keyed-returns t c = λ inputs level. rw c.into_text.ensures (c.member.ensures inputs level)
@@ -980,7 +980,7 @@ member-returns t c = λ inputs level.
     let later : Members → Run Item = entries_in p inputs level (named_entries c.args.later.now) v in
     let filter = run p inputs level (named c.args.filter.now) (plain v) in
     answers-bind c.entries.result filter (plain (view c.in_ok-found.found)) (on_entry later (members_in c.args.made) (text_in c.args.key.now))
-    (c.in_ok-found.ensures.found inputs level)
+    (c.in_ok-found.ensures inputs level)
     (subst (λ (m : Members). Answers c.entries.result (later m)) c.in_ok-longer.ensures (c.entries.ensures inputs level))
 
 pub member-returns-in_err-found : goal.member-returns-in_err-found
@@ -1165,9 +1165,9 @@ change_parts-returns-clause-runs t c = λ inputs level.
     let v = view c.args.value.now in
     let r = path_run p inputs level (named c.args.paths.now) v in
     let g = part_run p inputs level (named c.args.update.now) in
-    let all : gathered r ≡ one (plain (array (items_of (map view c.as_slice-2.result.now)))) =
-    c.in_ok-found.ensures.found inputs level ∙ ap (λ (xs : List Val). one (plain (array (items_of (map view xs))))) (sym c.as_slice-2.ensures.value) in
-    subst (Changed c.change_copied.result (view c.change_copied.new.value)) (sym (known_paths level g r (map view c.as_slice-2.result.now) v all)) (c.change_copied.ensures.runs inputs level)
+    let all : gathered r ≡ one (plain (array (items_of (map view c.as_slice-in_default.result.now)))) =
+    c.in_ok-found.ensures.found inputs level ∙ ap (λ (xs : List Val). one (plain (array (items_of (map view xs))))) (sym c.as_slice-in_default.ensures.value) in
+    subst (Changed c.change_copied.result (view c.change_copied.new.value)) (sym (known_paths level g r (map view c.as_slice-in_default.result.now) v all)) (c.change_copied.ensures.runs inputs level)
 
 pub paths_of-returns-in-Ok-clause-found : goal.paths_of-returns-in-Ok-clause-found
 paths_of-returns-in-Ok-clause-found t c = λ inputs level.
