@@ -1,13 +1,13 @@
 -- The runs of forms of whose parts only the first output counts.
 use Rattle.std.proofs.Common.{◌≡◌, ◌∙◌, ℕ, [], ◌∷◌, refl, sym, ap, true, nat_eq, arith}
-use Rattle.jv_meaning.specs.Value.{Value}
+use Rattle.jv_data.specs.Value.{Value}
 use Rattle.jq_tree.specs.Tree.{Name, Tree, Trees, pipe, comma, identity, whole, items, patterns_of, bind_as}
 use Rattle.jq_tree.specs.Tree as tree
 use Rattle.jq_meaning.specs.Runs.{Item, plain, value_in, Run, Ending, Broken, ended, one, fail, then_run, bind, labelled, gathered}
 use Rattle.jq_meaning.specs.Env.{Env, Callee, found_closure, no_callee, bound, value_of}
 use Rattle.jq_meaning.specs.Continuations.{on_source, on_part, in_bindings}
 use Rattle.jq_meaning.specs.Meaning.{Means, meaning_with, bindings_with, called}
-use Rattle.jq_machine.proofs.RunLaws.{bind-bind, bind-one}
+use Rattle.jq_meaning.proofs.shared.machine.RunLaws.{bind-bind, bind-one}
 use Rattle.jq_single.specs.private.FirstOutputs.{first_alone}
 use Rattle.jq_single.specs.private.States.{state}
 use Rattle.jq_single.proofs.FirstOutputs.{bind-first}

@@ -1,7 +1,7 @@
 -- The run of a turn.
 use Rattle.std.proofs.Common.{◌≡◌, ◌∙◌, ℕ, suc, [], ◌∷◌, Ok, Err, codes, refl, ap}
 use Rattle.jv_arith.specs.Arith.{add_of}
-use Rattle.jv_meaning.specs.Value.{Value, array, items_of}
+use Rattle.jv_data.specs.Value.{Value, array, items_of}
 use Rattle.jq_natives.specs.PathNatives.{getpath_native_of, setpath_native_of}
 use Rattle.jq_tree.specs.Tree.{Tree, variable, trees_of, pipe}
 use Rattle.jq_meaning.specs.Runs.{Item, plain, Run, Done, Raised, Broken, ended, none, one, fail, then_run, answered, labelled}
@@ -9,7 +9,7 @@ use Rattle.jq_meaning.specs.Env.{Env, no_callee, bound, value_of, label_of, find
 use Rattle.jq_meaning.specs.Builtins.{builtin_named, builtin_run}
 use Rattle.jq_meaning.specs.Continuations.{on_right, on_left}
 use Rattle.jq_meaning.specs.Meaning.{Means, meaning_with, arguments_with}
-use Rattle.jq_machine.proofs.RunLaws.{then_run-assoc, then_run-none}
+use Rattle.jq_meaning.proofs.shared.machine.RunLaws.{then_run-assoc, then_run-none}
 use Rattle.jq_single.specs.private.FirstOutputs.{first_alone}
 use Rattle.jq_single.specs.private.States.{state}
 use Rattle.jq_shapes.specs.Turn.{old_part, update_call, set_part, new_part, with_part, changed, put_part, longer, without_part, choosing, turn}

@@ -1,10 +1,10 @@
 -- The runs of updates.
 use Rattle.std.proofs.Common.{◌≡◌, ◌∙◌, ℕ, suc, [], ◌∷◌, Ok, Err, codes, refl, sym, ap}
-use Rattle.jv_meaning.specs.Value.{Value, array, items_of}
+use Rattle.jv_data.specs.Value.{Value, array, items_of}
 use Rattle.jq_natives.specs.Answers.{Answer}
 use Rattle.jq_natives.specs.PathNatives.{delpaths_native_of, getpath_native_of, setpath_native_of}
 use Rattle.jq_tree.specs.Tree.{Tree, pipe, reduce, variable, trees_of, whole}
-use Rattle.jq_machine.proofs.RunLaws.{bind-one, then_run-none}
+use Rattle.jq_meaning.proofs.shared.machine.RunLaws.{bind-one, then_run-none}
 use Rattle.jq_meaning.specs.Builtins.{builtin_named, builtin_run}
 use Rattle.jq_meaning.specs.Continuations.{on_source, on_state}
 use Rattle.jq_meaning.specs.Env.{Env, no_callee, bound, value_of, find_callee, find_inputs}

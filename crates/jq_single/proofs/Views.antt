@@ -1,9 +1,9 @@
 -- The views of a state and of a path.
 use Rattle.std.proofs.Common.{◌≡◌, ◌∙◌, ◌<◌, ◌≤◌, List, [], ◌∷◌, length, map, slice_index_or, slice_set, refl, sym, ap, arith}
-use Rattle.jv_meaning.proofs.Items.{values_of-items_of}
+use Rattle.jv_data.proofs.shared.Items.{values_of-items_of}
 use Rattle.jv_data.proofs.shared.Levels.{view-List}
 use Rattle.jv_data.specs.Shared.{items_in}
-use Rattle.jv_meaning.specs.Value.{Value, array, items_of}
+use Rattle.jv_data.specs.Value.{Value, array, items_of}
 use Rattle.jv_data.specs.View.{view, items_view}
 use Rattle.jv_data.specs.declared.containers.arrays.Array.{Array}
 use Rattle.jv_data.specs.declared.values.Val.{Val}

@@ -1,6 +1,6 @@
 // Updates (`f |= g`): calls of `_modify` of the prelude, whose body is known by its tree.
 ghost use Rattle.std.specs.Prelude.{◌≡◌, IfOk, IfSome, Ok, [], ◌∷◌, codes, map};
-ghost use Rattle.jv_meaning.specs.Value.{Value, array, items_of};
+ghost use Rattle.jv_data.specs.Value.{Value, array, items_of};
 ghost use Rattle.jv_data.specs.View.{view};
 ghost use Rattle.jv_value.specs.GetPath.{getpath_of};
 ghost use Rattle.jq_ast.specs.Named.{name_of, named};
@@ -20,8 +20,8 @@ use crate::stops::Stop;
 use crate::turning::{check_natives, check_unbound};
 use jq_ast::Tree;
 use jq_natives::Native;
+use jq_operations::one_path;
 use jq_shapes::Update;
-use jq_updates::one_path;
 use jv_data::{Array, Val};
 use jv_value::getpath;
 use std::alloc::{AllocError, Global};

@@ -1,7 +1,7 @@
 // The state of a turn: an array of the value that is changed, and of the paths for which the update had no output.
 ghost use Rattle.std.specs.Prelude.{◌≡◌, IfErr, IfOk, IfSome, Ok, [], ◌∷◌, map};
 ghost use Rattle.jv_arith.specs.Arith.{add_of};
-ghost use Rattle.jv_meaning.specs.Value.{Value, array, items_of};
+ghost use Rattle.jv_data.specs.Value.{Value, array, items_of};
 ghost use Rattle.jv_data.specs.View.{view};
 ghost use Rattle.jv_value.specs.GetPath.{getpath_of};
 ghost use Rattle.jv_value.specs.SetPath.{setpath_of};
@@ -11,7 +11,7 @@ ghost use Rattle.jq_single.specs.private.States.{IsState, first_of, second_of, s
 ghost use Rattle.jq_single.specs.private.UpdateTurns.{PutsFirst, PutsSecond};
 
 use crate::stops::Stop;
-use jq_updates::one_path;
+use jq_operations::one_path;
 use jv_arith::add_to;
 use jv_data::{Array, Fail, Val};
 use jv_value::{getpath, setpath};

@@ -1,6 +1,6 @@
 -- What the names in a turn are bound to.
 use Rattle.std.specs.Prelude.{◌≡◌, codes}
-use Rattle.jv_meaning.specs.Value.{Value}
+use Rattle.jv_data.specs.Value.{Value}
 use Rattle.jq_tree.specs.Tree.{Tree}
 use Rattle.jq_meaning.specs.Env.{Env, found_closure, no_callee, find_callee, find_value}
 

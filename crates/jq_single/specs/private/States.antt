@@ -1,6 +1,6 @@
 -- The state of a turn: an array of the value that is changed, and of the paths for which the update had no output.
 use Rattle.std.specs.Prelude.{◌≡◌, [], ◌∷◌}
-use Rattle.jv_meaning.specs.Value.{Value, null, array, item, items_of}
+use Rattle.jv_data.specs.Value.{Value, null, array, item, items_of}
 
 abbrev pub state : (x ds : Value) → Value
 state x ds = array (items_of (x ∷ ds ∷ []))

@@ -1,6 +1,6 @@
 -- The results of the steps of a turn, and of the whole turn.
 use Rattle.std.specs.Prelude.{◌≡◌, ℕ, [], ◌∷◌, codes, Result, Ok, Err}
-use Rattle.jv_meaning.specs.Value.{Value, array, items_of}
+use Rattle.jv_data.specs.Value.{Value, array, items_of}
 use Rattle.jv_data.specs.View.{view}
 use Rattle.jv_data.specs.declared.values.Val.{Val}
 use Rattle.jq_natives.specs.declared.native.Native.TheVariants.{DelPaths, SetPath}

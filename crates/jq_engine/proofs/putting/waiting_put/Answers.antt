@@ -1,7 +1,7 @@
 use Rattle.std.proofs.Common.{◌∙◌, refl, sym, ap, codes}
 use Rattle.jv_data.specs.View.{view}
 use Rattle.jq_tree.specs.Tree.{whole}
-use Rattle.jq_machine.specs.State.{source, body}
+use Rattle.jq_meaning.specs.machine.State.{source, body}
 use Rattle.jq_state.specs.Items.{item_of}
 use Rattle.jq_state.proofs.shared.Items.{absent}
 use Rattle.jq_shapes.specs.Turn.{changed}

@@ -1,6 +1,6 @@
 use Rattle.std.proofs.Common.{◌≡◌, ◌∙◌, Ok, sym, ap}
 use Rattle.jv_arith.specs.Arith.{add_of}
-use Rattle.jv_meaning.specs.Value.{array, item, no_items}
+use Rattle.jv_data.specs.Value.{array, item, no_items}
 use Rattle.jv_data.specs.View.{view}
 use Rattle.jv_data.specs.declared.values.Val as val
 use Rattle.jq_single.specs.private.States.{first_of, second_of, state}
