@@ -17,7 +17,8 @@ definition, so the list may be too long by a definition, and is never too short 
 
     tests/believed.py                    the files of each crate and of the program, with their lines and definitions.
                                          They are in the order of reading: each file after those that it uses, and
-                                         otherwise in the order of crates.txt and of its crate's specs/Lib.antt
+                                         otherwise in the order of crates.txt and of its crate's specs/Lib.antt, or for
+                                         one in a folder of specs/ in that of the file with the folder's name
     tests/believed.py CRATE..            only these crates
     tests/believed.py --unreached        the definitions of these files that no public contract reaches
     tests/believed.py --check            fails with a line for each fault:
@@ -31,7 +32,7 @@ definition, so the list may be too long by a definition, and is never too short 
                                            - a public contract leads into specs/laws, specs/private or specs/examples
                                            - a believed file imports from a `proofs` folder of the repository
                                            - a file of a crate names a lemma of another crate of the repository that
-                                             is not there to be cited: it is not in a folder `proofs/shared`
+                                             is not in the folder `proofs/shared` there
                                            - nothing cites a lemma of a `proofs` folder
     tests/believed.py --write            writes the numbers of docs/BELIEVE.md anew, puts each file into its part, and
                                          the rows of each table in the order of reading; the words of a row stay
@@ -52,8 +53,6 @@ PROGRAM = "jql"
 
 # Modules whose public functions are laws, whatever their parameters.
 LAW_MODULES = {"laws"}
-# Crates of which other crates may cite every lemma. Of the others they may cite those in the folder `proofs/shared`.
-CITED = {"jv_meaning", "jq_machine"}
 # What an `impl` proves, and does not say.
 PROVED_FIELDS = {"laws", "total", "coded", "invariant", "matches_eq", "matches_partial_cmp"}
 # Folders of specs/ that a public contract does not lead to.
@@ -191,7 +190,7 @@ def read_spec(crate, path, module):
 
 
 def module_of(path):
-    """The name of a file's module, as `Rattle.jv_meaning.specs.Value`."""
+    """The name of a file's module, as `Rattle.jv_data.specs.Value`."""
     parts = path.relative_to(CRATES).with_suffix("").parts
     return ".".join(["Rattle", *(parts[:-1] if parts[-1] == "Lib" else parts)])
 
@@ -578,11 +577,16 @@ def used_files(module):
 
 @functools.cache
 def place(module):
-    """Where a file comes if it uses no other: its crate's place in crates.txt, and its own in the crate's Lib.antt."""
+    """Where a file comes if it uses no other: its crate's place in crates.txt, and its own in the crate's Lib.antt (for a file
+    in a folder of specs/ that of the folder, and then its own in the file with the folder's name)."""
     spec = specs()[module]
-    listed = re.findall(r"^(?:pub )?mod (\w+)", (CRATES / spec.crate / "specs" / "Lib.antt").read_text(), re.M)
-    below = spec.path.relative_to(CRATES / spec.crate / "specs").with_suffix("").parts
-    return crates().index(spec.crate), listed.index(below[0]) if below[0] in listed else len(listed), below
+    folder = CRATES / spec.crate / "specs"
+    places, listing = [], folder / "Lib.antt"
+    for name in spec.path.relative_to(folder).with_suffix("").parts:
+        listed = re.findall(r"^(?:pub )?mod (\w+)", listing.read_text(), re.M)
+        places.append((listed.index(name) if name in listed else len(listed), name))
+        folder, listing = folder / name, folder / f"{name}.antt"
+    return crates().index(spec.crate), places
 
 
 def reading_order(modules):
@@ -829,8 +833,7 @@ def citation_faults():
     """Where a file names lemmas that another crate keeps to itself."""
     for path, cited in citations().items():
         for crate in cited:
-            if crate not in CITED:
-                yield f"{path.relative_to(CRATES)}: cites a lemma of {crate}, which is not there to be cited"
+            yield f"{path.relative_to(CRATES)}: cites a lemma of {crate} that is not in its proofs/shared"
 
 
 BOX = re.compile(r"(?:\w+ )*(?:module _ .*|mutual)$")
