@@ -39,6 +39,7 @@ import re
 import subprocess
 import sys
 import tempfile
+import time
 import tomllib
 
 ROOT = pathlib.Path(__file__).resolve().parent.parent
@@ -248,7 +249,8 @@ def run_program_tests(name, *words):
 
 
 def run_gate():
-    """What `rt ci` counted, and one more failure where it failed without counting one."""
+    """What `rt ci` counted, and one more failure where it failed without counting one. Tells how long it took."""
+    began, used = time.monotonic(), os.times()
     gate = subprocess.Popen(["rt", "ci"], cwd=ROOT, stdout=subprocess.PIPE, stderr=subprocess.STDOUT)
     last = ""
     for line in gate.stdout:
@@ -256,6 +258,9 @@ def run_gate():
         sys.stdout.buffer.write(line)
         sys.stdout.buffer.flush()
     status = gate.wait()
+    now = os.times()
+    processors = now.children_user + now.children_system - used.children_user - used.children_system
+    print(f"rt ci: {(time.monotonic() - began) / 60:.0f} minutes, {processors / 60:.0f} processor minutes", flush=True)
     counted = re.fullmatch(r"(\d+) passed, (\d+) failed", last)
     passed, failed = (int(n) for n in counted.groups()) if counted else (0, 0)
     if failed == 0 and (status != 0 or not counted):
