@@ -32,6 +32,7 @@ mod prelude;
 mod program;
 mod ranges;
 mod texts;
+mod updates;
 mod values;
 pub mod waiting;
 
@@ -46,4 +47,5 @@ pub use operators::operated;
 pub use outputs::Outputs;
 pub use prelude::find_in_prelude;
 pub use texts::{Inserted, text_in_format};
+pub use updates::has_modify;
 pub use values::{enter_variable, find_value};

@@ -5,7 +5,7 @@ ghost use Rattle.jv_data.specs.View.{view};
 ghost use Rattle.jq_meaning.specs.Env.{Env, bound, value_of};
 ghost use Rattle.jq_meaning.specs.Meaning.{meaning};
 ghost use Rattle.jq_meaning.specs.Runs.{plain};
-ghost use Rattle.jq_shapes.specs.Turn.{with_part, without_part};
+ghost use Rattle.jq_update_laws.specs.Body.{with_part, without_part};
 ghost use Rattle.jq_updates.specs.Answers.{Answers};
 ghost use Rattle.jq_updates.specs.Settings.{Holds, Sets};
 

@@ -1,0 +1,3 @@
+-- What an update does, and the laws.
+pub mod Updating
+pub mod Updates
