@@ -1,6 +1,6 @@
 -- The faults of the command's parts, and the failures of their devices.
 use Rattle.std.proofs.Common.{◌≡◌, ◌≢◌, ◌≤◌, ◌<◌, ℕ, List, Option, inl, inr, refl, sym, subst, arith, Result, IfErr}
-use Rattle.jv_meaning.proofs.shared.Results.{if_err_both, if_err_map}
+use Rattle.jv_data.proofs.shared.Results.{if_err_both, if_err_map}
 use Rattle.jq_devices.proofs.shared.Failures.{failed_after, failed_more}
 use Rattle.jq_devices.specs.Watched.{HasFailed}
 use Rattle.jq_devices.specs.declared.faults.StreamFault.{StreamFault}

@@ -4,7 +4,7 @@ use Rattle.std.proofs.KnownBytes.{Appends-nil}
 use Rattle.std.proofs.lemmas.Bool.{lt-ltb, le-ltb}
 use Rattle.std.specs.Io.KnownBytes.{Appends}
 use Rattle.std.proofs.lemmas.List.{length-map}
-use Rattle.jv_meaning.specs.Value.{Value}
+use Rattle.jv_data.specs.Value.{Value}
 use Rattle.jv_data.specs.View.{view}
 use Rattle.jv_data.specs.declared.values.Val.{Val}
 use Rattle.jq_session.specs.Sessions.{IsStartRefusal}
@@ -13,7 +13,7 @@ use Rattle.jq_session.specs.declared.refusals.Refusal.TheVariants as refusal
 use Rattle.jv_text.specs.Stream.{Values, stream}
 use Rattle.jv_text.specs.declared.faults.Fault.{Fault}
 use Rattle.jq_syntax.specs.Chosen.{Chosen}
-use Rattle.jv_meaning.proofs.shared.Results.{if_err_map, if_ok_map}
+use Rattle.jv_data.proofs.shared.Results.{if_err_map, if_ok_map}
 use Rattle.jq_devices.proofs.shared.Writing.{first_nothing}
 use Rattle.jq_devices.specs.Writing.{AppendsFirst}
 use Rattle.jq_devices.specs.declared.faults.StreamFault.{StreamFault}

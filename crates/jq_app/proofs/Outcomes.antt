@@ -5,7 +5,7 @@ use Rattle.clap.specs.Words.{Text}
 use Rattle.jq_cli.specs.Answers.{Asks}
 use Rattle.jq_cli.specs.Configuration.{Configuration}
 use Rattle.jq_devices.specs.Files.{contents}
-use Rattle.jv_meaning.proofs.shared.Results.{if_err_map, if_ok_map}
+use Rattle.jv_data.proofs.shared.Results.{if_err_map, if_ok_map}
 use Rattle.jq_devices.specs.declared.faults.StreamFault.{StreamFault}
 use Rattle.jq_filters.specs.Outcomes.{Outcome}
 use Rattle.jq_stream.specs.Streams.{Streams}

@@ -1,6 +1,6 @@
 -- What the command does if its words ask for a session: it answers the lines of a script over inputs that the script edits.
 use Rattle.std.specs.Prelude.{◌≡◌, ◌≢◌, ◌⊎◌, ℕ, List, [], ◌++◌, Bool, Option, Some, None, codes, length, nat_lt, true, if◌then◌else◌}
-use Rattle.jv_meaning.specs.Value.{Value}
+use Rattle.jv_data.specs.Value.{Value}
 use Rattle.jv_text.specs.Stream.{StreamEnd, Values, clean, open_text, fault, stream}
 use Rattle.jq_syntax.specs.Chosen.{Chosen}
 use Rattle.jq_devices.specs.Faults.{error_start}

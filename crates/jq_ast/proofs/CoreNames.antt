@@ -3,7 +3,7 @@ use Rattle.std.proofs.Common.{◌≡◌, ℕ, List, true, codes, refl}
 use Rattle.std.specs.Char.{is_ascii}
 use Rattle.std.specs.List.{list_all}
 use Rattle.std.specs.Str.{IsUtf8, chars}
-use Rattle.jv_meaning.proofs.shared.Ascii.{same_as_ascii}
+use Rattle.jv_data.proofs.shared.Ascii.{same_as_ascii}
 use Rattle.jq_ast.specs.CoreNames.{core_named}
 
 pub core_same : (bs : List ℕ) (a : ℕ) → IsUtf8 bs → core_named bs a ≡ core_named (chars bs) a

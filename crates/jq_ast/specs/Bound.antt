@@ -3,7 +3,7 @@
 -- If a referent does not fit the name, the name is bound nowhere.
 use Rattle.std.specs.Prelude.{ℕ, suc, ◌+◌, ◌-◌, List, [], ◌∷◌, map, length, String, Bool, false, nat_lt, if◌then◌else◌, Option, Some, None}
 use Rattle.std.specs.declared.alloc.Global.{Global}
-use Rattle.jv_meaning.specs.Text.{text_of}
+use Rattle.jv_data.specs.Text.{text_of}
 use Rattle.jv_text.specs.declared.formats.names.Format.{Format}
 use Rattle.jv_text.specs.contracts.formats.names.FormatPartialEq.TheImpl as format_eq
 use Rattle.jv_text.specs.Formats.{format_named}

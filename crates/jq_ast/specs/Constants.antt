@@ -1,7 +1,7 @@
 -- Which values are constants.
 use Rattle.std.specs.Prelude.{Bool, true, false}
-use Rattle.jv_meaning.specs.Value.{Value}
-use Rattle.jv_meaning.specs.Value as value
+use Rattle.jv_data.specs.Value.{Value}
+use Rattle.jv_data.specs.Value as value
 
 -- Null, a boolean, a number or a string.
 abbrev pub is_constant : Value → Bool

@@ -1,7 +1,7 @@
 -- The constants and operators of a tree as those of the definitions.
 use Rattle.std.specs.Prelude.{ℕ, List, []}
-use Rattle.jv_meaning.specs.Value.{Value}
-use Rattle.jv_meaning.specs.Value as value
+use Rattle.jv_data.specs.Value.{Value}
+use Rattle.jv_data.specs.Value as value
 use Rattle.jv_data.specs.View.{view}
 use Rattle.jq_tree.specs.Tree as tree
 use Rattle.jq_ast.specs.declared.leaves.Literal.{Literal}

@@ -1,7 +1,7 @@
 -- A tree as the definition's tree, with the names alone.
 use Rattle.std.specs.Prelude.{List, [], ◌∷◌, map, String}
 use Rattle.std.specs.declared.alloc.Global.{Global}
-use Rattle.jv_meaning.specs.Text.{text_of}
+use Rattle.jv_data.specs.Text.{text_of}
 use Rattle.jq_tree.specs.Tree as tree
 use Rattle.jq_ast.specs.Leaves.{literal_of, key_of, operator_of}
 use Rattle.jq_ast.specs.declared.names.Name.{Name}

@@ -1,8 +1,8 @@
 // The constants of a tree.
 ghost use Rattle.std.specs.Prelude.{◌≡◌, IsTrue, IfOk};
-ghost use Rattle.jv_meaning.specs.Text.{text_of};
+ghost use Rattle.jv_data.specs.Text.{text_of};
 ghost use Rattle.jv_data.specs.View.{view};
-ghost use Rattle.jv_meaning.specs.Value.{null, boolean, number, string};
+ghost use Rattle.jv_data.specs.Value.{null, boolean, number, string};
 ghost use Rattle.jq_ast.specs.Constants.{is_constant, is_text};
 
 use jv_data::Val;

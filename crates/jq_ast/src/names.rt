@@ -1,6 +1,6 @@
 // Names, and what they refer to.
 ghost use Rattle.std.specs.Prelude.{◌≡◌, IfOk, codes};
-ghost use Rattle.jv_meaning.specs.Text.{text_of};
+ghost use Rattle.jv_data.specs.Text.{text_of};
 
 use jq_natives::Native;
 use jv_text::Format;

@@ -1,7 +1,7 @@
 -- What the parts of trees in the code stand for.
 use Rattle.std.specs.Prelude.{ℕ, List, map, Option, Some, None, Box}
 use Rattle.std.specs.declared.alloc.Global.{Global}
-use Rattle.jv_meaning.specs.Text.{text_of}
+use Rattle.jv_data.specs.Text.{text_of}
 use Rattle.jq_tree.specs.Tree as tree
 use Rattle.jq_tree.specs.WrittenOut as written
 use Rattle.jq_ast.specs.Named.{named, named_as_pattern}

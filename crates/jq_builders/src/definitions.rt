@@ -1,6 +1,6 @@
 // Definitions of functions.
 ghost use Rattle.std.specs.Prelude.{◌≡◌, ◌∷◌, ◌++◌, [], map, IfOk};
-ghost use Rattle.jv_meaning.specs.Text.{text_of};
+ghost use Rattle.jv_data.specs.Text.{text_of};
 ghost use Rattle.jq_tree.specs.WrittenOut as written;
 ghost use Rattle.jq_builders.specs.Trees as built;
 ghost use Rattle.jq_builders.specs.Views.{tree_in, parameter_of, definition_of};

@@ -1,7 +1,7 @@
 // The trees of filters, built from their parts.
 ghost use Rattle.std.specs.Prelude.{◌≡◌, ◌∷◌, ◌++◌, [], map, pos, false, bytes_eq, IfOk, Some, None};
 ghost use Rattle.std.specs.Str.{chars};
-ghost use Rattle.jv_meaning.specs.Text.{text_of};
+ghost use Rattle.jv_data.specs.Text.{text_of};
 ghost use Rattle.jq_tree.specs.Tree as tree;
 ghost use Rattle.jq_tree.specs.Token.{keyword_text};
 ghost use Rattle.jq_tree.specs.Grammar as g;

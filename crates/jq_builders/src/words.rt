@@ -1,6 +1,6 @@
 // The texts of reserved words, which are names in keys.
 ghost use Rattle.std.specs.Prelude.{◌≡◌, IfOk};
-ghost use Rattle.jv_meaning.specs.Text.{text_of};
+ghost use Rattle.jv_data.specs.Text.{text_of};
 ghost use Rattle.jq_tree.specs.Token as token;
 ghost use Rattle.jq_lexer.specs.Views.{keyword_of};
 

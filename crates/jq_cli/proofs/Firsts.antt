@@ -8,7 +8,7 @@ use Rattle.std.proofs.lemmas.Slice.Eq.{bytes_eq-Decides}
 use Rattle.std.proofs.lemmas.List.{append-nil}
 use Rattle.std.proofs.lemmas.Str.{IsUtf8-string_bytes}
 use Rattle.jq_syntax.specs.Chosen.{variables_of}
-use Rattle.jv_meaning.proofs.shared.Texts.{bytes_eq-sym, same_characters}
+use Rattle.jv_data.proofs.shared.Texts.{bytes_eq-sym, same_characters}
 use Rattle.jv_data.specs.declared.values.Val.{Val}
 use Rattle.jq_cli.specs.Pieces.{Variable, firsts, is_named}
 

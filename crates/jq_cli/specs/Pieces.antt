@@ -6,7 +6,7 @@ use Rattle.clap.specs.Words.{Text}
 use Rattle.jq_tree.specs.Tree.{Name}
 use Rattle.jq_tree.specs.Words.{is_name}
 use Rattle.jv_cut.specs.Cut.{cut_from}
-use Rattle.jv_meaning.specs.Value.{Value, string}
+use Rattle.jv_data.specs.Value.{Value, string}
 use Rattle.jv_text.specs.Reading.{text_of_cut}
 use Rattle.jv_text.specs.declared.faults.Fault.{Fault}
 use Rattle.jq_cli.specs.declared.taking.Kind.{Kind}

@@ -3,15 +3,15 @@ use Rattle.std.proofs.Common.{◌≡◌, ◌≤◌, ◌<◌, List, length, subst
 use Rattle.jq_tree.specs.Tree.{Tree}
 use Rattle.jq_meaning.specs.Meaning.{meaning}
 use Rattle.jq_meaning.specs.Runs.{Item, Ending, Done, Raised, Broken, Stopped, Run, one, ended}
-use Rattle.jq_machine.specs.Heights.{Fits, ForksFit, Fit}
-use Rattle.jq_machine.specs.Machine.{Produces}
-use Rattle.jq_machine.specs.Operations.{deliver, ending_next}
-use Rattle.jq_machine.specs.State.{Scope, Frame, ForkPoint, State, state, evaluate, give}
-use Rattle.jq_machine.proofs.Comings.{pass_frames}
-use Rattle.jq_machine.proofs.Correct.{left}
-use Rattle.jq_machine.proofs.Reading.{meaning_at, traced_at, run_at, behaviours, waiting, cells, still}
-use Rattle.jq_machine.proofs.Behaviours.{rest}
-use Rattle.jq_machine.proofs.Kept.{keeps-moves, fits-moves, left-falls}
+use Rattle.jq_meaning.specs.machine.Heights.{Fits, ForksFit, Fit}
+use Rattle.jq_meaning.specs.machine.Machine.{Produces}
+use Rattle.jq_meaning.specs.machine.Operations.{deliver, ending_next}
+use Rattle.jq_meaning.specs.machine.State.{Scope, Frame, ForkPoint, State, state, evaluate, give}
+use Rattle.jq_meaning.proofs.shared.machine.Comings.{pass_frames}
+use Rattle.jq_meaning.proofs.shared.machine.Correct.{left}
+use Rattle.jq_meaning.proofs.shared.machine.Reading.{meaning_at, traced_at, run_at, behaviours, waiting, cells, still}
+use Rattle.jq_meaning.proofs.shared.machine.Behaviours.{rest}
+use Rattle.jq_meaning.proofs.shared.machine.Kept.{keeps-moves, fits-moves, left-falls}
 use Rattle.jq_engine.proofs.Covering.{unmarked, rest_covered}
 use Rattle.jq_engine.specs.private.Leading.{AtOnce, unchanged, gives, ends, Advances, here, by_transition, by_run}
 

@@ -1,12 +1,12 @@
 -- A run without its marks leaves no more to do.
 use Rattle.std.proofs.Common.{◌≡◌, ◌≤◌, ℕ, suc, List, [], ◌∷◌, length, map, ap, arith}
 use Rattle.jq_meaning.specs.Runs.{Item, Ending, Done, Raised, Broken, Stopped, Run, before}
-use Rattle.jq_machine.specs.State.{Cell}
-use Rattle.jq_machine.proofs.Flow.{Cells, put, Rest, Flow, end_by, give_all, feed, turn_flow, FoldBehaviour, source_flow}
-use Rattle.jq_machine.proofs.Behaviours.{Behaviour, through, guard, turn, fold_source, Cuts, flow_of, cuts_of, rest}
-use Rattle.jq_machine.proofs.Events.{Event, visit, output, outputs}
-use Rattle.jq_machine.proofs.Marks.{Pass, flow-marks}
-use Rattle.jq_machine.proofs.Reading.{Behaviours, WaitingRuns}
+use Rattle.jq_meaning.specs.machine.State.{Cell}
+use Rattle.jq_meaning.proofs.shared.machine.Flow.{Cells, put, Rest, Flow, end_by, give_all, feed, turn_flow, FoldBehaviour, source_flow}
+use Rattle.jq_meaning.proofs.shared.machine.Behaviours.{Behaviour, through, guard, turn, fold_source, Cuts, flow_of, cuts_of, rest}
+use Rattle.jq_meaning.proofs.shared.machine.Events.{Event, visit, output, outputs}
+use Rattle.jq_meaning.proofs.shared.machine.Marks.{Pass, flow-marks}
+use Rattle.jq_meaning.proofs.shared.machine.Reading.{Behaviours, WaitingRuns}
 
 -- as many items, or more
 abbrev Covers : {A : Type 0} → Rest (Event A) → Rest (Event A) → Type 0

@@ -1,8 +1,8 @@
 -- That the heights of a state are in range has one proof.
 use Rattle.std.specs.Prelude.{ℕ, List, [], ◌∷◌, length}
 use Rattle.std.proofs.Props.{props}
-use Rattle.jq_machine.specs.Heights.{FrameFits, floor, Fits, ChoiceFits, ForksFit, BinderFits, NextFits, Fit}
-use Rattle.jq_machine.specs.State.{Binder, body, fold_step, Frame, operation, pipe_into, target_key, slice_start, slice_end, right_operand, conjunct, disjunct, test, entry_value, entry_key, own_entry, hole, argument, source, pattern_key, fold_start, fold_update, collect, left_side, try_body, label_body, Next, evaluate, give, matching, matched, go_back, raise, leave, quit, Choice, other, remaining, collected, last_state, no_more, right_side, check_update, ForkPoint, State}
+use Rattle.jq_meaning.specs.machine.Heights.{FrameFits, floor, Fits, ChoiceFits, ForksFit, BinderFits, NextFits, Fit}
+use Rattle.jq_meaning.specs.machine.State.{Binder, body, fold_step, Frame, operation, pipe_into, target_key, slice_start, slice_end, right_operand, conjunct, disjunct, test, entry_value, entry_key, own_entry, hole, argument, source, pattern_key, fold_start, fold_update, collect, left_side, try_body, label_body, Next, evaluate, give, matching, matched, go_back, raise, leave, quit, Choice, other, remaining, collected, last_state, no_more, right_side, check_update, ForkPoint, State}
 
 FrameFits-prop : (n : ℕ) (f : Frame) → IsProp (FrameFits n f)
 FrameFits-prop n (operation o) = hlevel

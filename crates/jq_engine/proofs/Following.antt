@@ -2,7 +2,7 @@
 use Rattle.std.proofs.Common.{◌≡◌, ◌∷◌, [], refl, List}
 use Rattle.jq_tree.specs.Tree.{Name, no_trees}
 use Rattle.jq_meaning.specs.Env.{Env, with_arguments}
-use Rattle.jq_machine.specs.State as machine
+use Rattle.jq_meaning.specs.machine.State as machine
 use Rattle.jq_engine.specs.private.Leading.{Advances, here, by_transition}
 use Rattle.jq_engine.specs.private.Tails.{Arrives}
 use Rattle.jq_engine.proofs.Leading.{and_then}

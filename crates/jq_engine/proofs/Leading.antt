@@ -1,21 +1,21 @@
 -- Steps of one transition, and of several.
 use Rattle.std.proofs.Common.{◌≡◌, ◌∙◌, Result, IfOk, IfSome, List, Option, Some, None, sym, ap, subst}
 use Rattle.std.proofs.lemmas.Result.{IfOk-weaker}
-use Rattle.jv_meaning.specs.Value.{Value}
+use Rattle.jv_data.specs.Value.{Value}
 use Rattle.jq_tree.specs.Tree.{Tree}
 use Rattle.jq_meaning.specs.Meaning.{meaning}
 use Rattle.jq_meaning.specs.Runs.{Run, Item, Ending, ended}
-use Rattle.jq_machine.specs.Machine.{step, step_of}
-use Rattle.jq_machine.specs.Operations.{ending_next}
-use Rattle.jq_machine.specs.State.{Scope, Frame, ForkPoint, state, evaluate, moves}
-use Rattle.jq_machine.specs.State as machine
+use Rattle.jq_meaning.specs.machine.Machine.{step, step_of}
+use Rattle.jq_meaning.specs.machine.Operations.{ending_next}
+use Rattle.jq_meaning.specs.machine.State.{Scope, Frame, ForkPoint, state, evaluate, moves}
+use Rattle.jq_meaning.specs.machine.State as machine
 use Rattle.jq_state.specs.Nexts.{ComesWith}
 use Rattle.jq_state.specs.declared.next.Next.{Next}
 use Rattle.jq_state.specs.declared.states.State.{State}
-use Rattle.jq_backtracking.specs.declared.outcomes.Progress.{Progress}
-use Rattle.jq_backtracking.specs.declared.outcomes.Progress.TheVariants as progress
+use Rattle.jq_transitions.specs.declared.backtracking.outcomes.Progress.{Progress}
+use Rattle.jq_transitions.specs.declared.backtracking.outcomes.Progress.TheVariants as progress
 use Rattle.jq_engine.specs.private.Leading.{ends, Advances, here, by_transition, by_run, Leads, GoesOn}
-use Rattle.jq_backtracking.specs.Outcomes.{Steps}
+use Rattle.jq_transitions.specs.Outcomes.{Steps}
 
 pub if_some : {A : Type 0} {P Q : A → Type 0} (o : Option A) → ((x : A) → P x → Q x) → IfSome o P → IfSome o Q
 if_some (Some x) h p = h x p

@@ -1,11 +1,11 @@
 -- Items that go to the filter after a `|`.
 use Rattle.std.proofs.Common.{◌≡◌, ◌∙◌, ◌∷◌, refl, sym, ap}
-use Rattle.jv_meaning.specs.Value.{Value}
+use Rattle.jv_data.specs.Value.{Value}
 use Rattle.jq_tree.specs.Tree.{Tree}
 use Rattle.jq_meaning.specs.Runs.{Run, Item}
-use Rattle.jq_machine.specs.Machine.{step_of}
-use Rattle.jq_machine.specs.State.{Frame, pipe_into, state, evaluate, give, moves}
-use Rattle.jq_machine.specs.State as machine
+use Rattle.jq_meaning.specs.machine.Machine.{step_of}
+use Rattle.jq_meaning.specs.machine.State.{Frame, pipe_into, state, evaluate, give, moves}
+use Rattle.jq_meaning.specs.machine.State as machine
 use Rattle.jq_state.specs.Environments.{envs_of}
 use Rattle.jq_state.specs.Links.{scope_in}
 use Rattle.jq_state.specs.Views.{envs_in, frames_in, forks_in}

@@ -1,19 +1,19 @@
 -- The transitions at the end of a turn of an update.
 use Rattle.std.proofs.Common.{◌≡◌, ℕ, suc, ◌<◌, ◌≤◌, List, [], ◌∷◌, length, nat_eq, nat_lt, if◌then◌else◌, Bool, true, false, Some, codes, refl, ap, arith}
 use Rattle.std.proofs.lemmas.Bool.Decides.{nat_tests}
-use Rattle.jv_meaning.specs.Value.{Value}
+use Rattle.jv_data.specs.Value.{Value}
 use Rattle.jq_tree.specs.Tree.{Tree, break, whole}
 use Rattle.jq_meaning.specs.Env.{find_level, bound, value_of}
 use Rattle.jq_meaning.specs.Meaning.{meaning}
 use Rattle.jq_meaning.specs.Runs.{Item, plain, value_in, Raised, one, fail}
-use Rattle.jq_machine.specs.Evaluating.{enter_break}
-use Rattle.jq_machine.specs.Heights.{Fits, Fit}
-use Rattle.jq_machine.specs.Machine.{step, find_handler}
-use Rattle.jq_machine.specs.Operations.{refusing}
-use Rattle.jq_machine.specs.Stack.{cut, set_cell}
-use Rattle.jq_machine.specs.State.{Scope, with_env, reducing, body, fold_step, Frame, operation, pipe_into, target_key, slice_start, slice_end, right_operand, conjunct, disjunct, test, entry_value, entry_key, own_entry, hole, argument, source, pattern_key, fold_start, fold_update, collect, left_side, try_body, label_body, evaluate, give, go_back, raise, leave, other, Cell, ForkPoint, fork, State, state, moves}
-use Rattle.jq_machine.proofs.StackLaws.{set-length}
-use Rattle.jq_update_laws.specs.Body.{changed, with_part, without_part}
+use Rattle.jq_meaning.specs.machine.Evaluating.{enter_break}
+use Rattle.jq_meaning.specs.machine.Heights.{Fits, Fit}
+use Rattle.jq_meaning.specs.machine.Machine.{step, find_handler}
+use Rattle.jq_meaning.specs.machine.Operations.{refusing}
+use Rattle.jq_meaning.specs.machine.Stack.{cut, set_cell}
+use Rattle.jq_meaning.specs.machine.State.{Scope, with_env, reducing, body, fold_step, Frame, operation, pipe_into, target_key, slice_start, slice_end, right_operand, conjunct, disjunct, test, entry_value, entry_key, own_entry, hole, argument, source, pattern_key, fold_start, fold_update, collect, left_side, try_body, label_body, evaluate, give, go_back, raise, leave, other, Cell, ForkPoint, fork, State, state, moves}
+use Rattle.jq_meaning.proofs.shared.machine.StackLaws.{set-length}
+use Rattle.jq_meaning.specs.updates.Body.{changed, with_part, without_part}
 use Rattle.jq_engine.specs.private.Leading.{Advances, gives, ends, here, by_transition, by_run}
 
 -- ---- stacks that are cut

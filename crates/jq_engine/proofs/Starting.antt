@@ -4,10 +4,10 @@ use Rattle.jq_tree.specs.Tree.{Tree}
 use Rattle.jq_meaning.specs.Env.{Env}
 use Rattle.jq_meaning.specs.Meaning.{meaning}
 use Rattle.jq_meaning.specs.Runs.{Item}
-use Rattle.jq_machine.specs.Heights.{Fit}
-use Rattle.jq_machine.specs.Machine.{Produces}
-use Rattle.jq_machine.specs.laws.Starts.{start}
-use Rattle.jq_machine.specs.State.{Scope, Frame, ForkPoint, state, evaluate}
+use Rattle.jq_meaning.specs.machine.Heights.{Fit}
+use Rattle.jq_meaning.specs.machine.Machine.{Produces}
+use Rattle.jq_meaning.specs.laws.Starts.{start}
+use Rattle.jq_meaning.specs.machine.State.{Scope, Frame, ForkPoint, state, evaluate}
 
 -- with no frame and no fork point
 pub at_start : (t : Tree) (p : Scope) (x : Item) {k : List Frame} {fs : List ForkPoint} → k ≡ [] → fs ≡ [] → state (evaluate t p x) k fs ≡ start t p x

@@ -1,10 +1,10 @@
 -- What the machine's step comes to, by what the parts of a state are.
 use Rattle.std.proofs.Common.{◌≡◌, ◌∙◌, ◌∷◌, List, [], sym, ap}
 use Rattle.jq_meaning.specs.Runs.{Item}
-use Rattle.jq_machine.specs.Giving.{receive}
-use Rattle.jq_machine.specs.Machine.{step_of}
-use Rattle.jq_machine.specs.State.{Frame, ForkPoint, state, give, go_back, moves, outputs}
-use Rattle.jq_machine.specs.State as machine
+use Rattle.jq_meaning.specs.machine.Giving.{receive}
+use Rattle.jq_meaning.specs.machine.Machine.{step_of}
+use Rattle.jq_meaning.specs.machine.State.{Frame, ForkPoint, state, give, go_back, moves, outputs}
+use Rattle.jq_meaning.specs.machine.State as machine
 use Rattle.jq_state.specs.declared.states.State.{State}
 
 -- an item that comes to a frame

@@ -1,14 +1,14 @@
 -- The end of a turn, by what the state and its parts are.
 use Rattle.std.proofs.Common.{◌≡◌, ◌∙◌, [], ◌∷◌, ◌<◌, List, length, codes, refl, sym, ap, subst, arith}
-use Rattle.jv_meaning.specs.Value.{Value}
+use Rattle.jv_data.specs.Value.{Value}
 use Rattle.jv_data.specs.View.{view}
 use Rattle.jq_tree.specs.Tree.{Tree, whole}
 use Rattle.jq_meaning.specs.Env.{bound, value_of}
 use Rattle.jq_meaning.specs.Meaning.{meaning}
 use Rattle.jq_meaning.specs.Runs.{Run, Item, plain, value_in, one, fail}
-use Rattle.jq_machine.specs.Machine.{find_handler}
-use Rattle.jq_machine.specs.Stack.{cut, set_cell}
-use Rattle.jq_machine.specs.State.{Frame, ForkPoint, body, source, label_body, fold_update, reducing, state, evaluate, give, leave, go_back, raise, moves}
+use Rattle.jq_meaning.specs.machine.Machine.{find_handler}
+use Rattle.jq_meaning.specs.machine.Stack.{cut, set_cell}
+use Rattle.jq_meaning.specs.machine.State.{Frame, ForkPoint, body, source, label_body, fold_update, reducing, state, evaluate, give, leave, go_back, raise, moves}
 use Rattle.jq_state.specs.Items.{item_of}
 use Rattle.jq_state.specs.Links.{scope_in}
 use Rattle.jq_state.specs.Nodes.{env_at}
@@ -18,14 +18,14 @@ use Rattle.jq_state.specs.declared.frames.Scope.{Scope}
 use Rattle.jq_state.specs.declared.items.Item as items
 use Rattle.jq_state.specs.declared.states.State.{State}
 use Rattle.jq_state.specs.declared.steps.Step.{Step}
-use Rattle.jq_update_laws.specs.Body.{changed, with_part, without_part}
+use Rattle.jq_meaning.specs.updates.Body.{changed, with_part, without_part}
 use Rattle.jq_engine.specs.declared.putting.UpdateEnd.{UpdateEnd}
-use Rattle.jq_backtracking.specs.declared.outcomes.Progress.{Progress}
-use Rattle.jq_backtracking.specs.declared.outcomes.Progress.TheVariants as progress
+use Rattle.jq_transitions.specs.declared.backtracking.outcomes.Progress.{Progress}
+use Rattle.jq_transitions.specs.declared.backtracking.outcomes.Progress.TheVariants as progress
 use Rattle.jq_state.specs.declared.next.Next.TheVariants as next
 use Rattle.jq_state.proofs.shared.Items.{value_of_item}
 use Rattle.jq_engine.specs.private.Leading.{Leads}
-use Rattle.jq_backtracking.specs.Outcomes.{Steps}
+use Rattle.jq_transitions.specs.Outcomes.{Steps}
 use Rattle.jq_engine.specs.private.UpdateEnds.{EndsTurn, KeepsPart}
 use Rattle.jq_engine.proofs.Leading.{leads_at}
 use Rattle.jq_engine.proofs.Puts.{set_cut, leaves, leaving_cuts, failing, fails, failed, kept, not_kept}

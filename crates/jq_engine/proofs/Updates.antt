@@ -2,7 +2,7 @@
 use Rattle.std.proofs.Common.{◌≡◌, ◌∙◌, ℕ, List, ◌∷◌, ap}
 use Rattle.jq_tree.specs.Tree.{Tree}
 use Rattle.jq_meaning.specs.Runs.{Item}
-use Rattle.jq_machine.specs.State.{Scope, Fold, Frame, fold_update, ForkPoint, state, evaluate}
+use Rattle.jq_meaning.specs.machine.State.{Scope, Fold, Frame, fold_update, ForkPoint, state, evaluate}
 
 -- it runs in equal scopes, on equal states
 pub update_same : {t u : Tree} {p q : Scope} {x y : Item} {h : ℕ} {f : Fold} {k l : List Frame} {fs gs : List ForkPoint} → t ≡ u → p ≡ q → x ≡ y → k ≡ l → fs ≡ gs

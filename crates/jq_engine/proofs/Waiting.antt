@@ -1,13 +1,13 @@
 -- Filters of which a part is run first.
 use Rattle.std.proofs.Common.{◌≡◌, ◌∙◌, ◌∷◌, List, sym, ap, subst}
-use Rattle.jv_meaning.specs.Value.{Value}
+use Rattle.jv_data.specs.Value.{Value}
 use Rattle.jv_data.specs.View.{view}
 use Rattle.jq_tree.specs.Tree.{Tree}
 use Rattle.jq_meaning.specs.Meaning.{meaning}
 use Rattle.jq_meaning.specs.Runs.{Run, Item, plain, as_value, Ending, one, ended}
-use Rattle.jq_machine.specs.Machine.{step, step_of}
-use Rattle.jq_machine.specs.Operations.{ending_next}
-use Rattle.jq_machine.specs.State.{Frame, ForkPoint, Next, state, give}
+use Rattle.jq_meaning.specs.machine.Machine.{step, step_of}
+use Rattle.jq_meaning.specs.machine.Operations.{ending_next}
+use Rattle.jq_meaning.specs.machine.State.{Frame, ForkPoint, Next, state, give}
 use Rattle.jq_state.specs.Items.{item_of}
 use Rattle.jq_state.specs.Links.{scope_in}
 use Rattle.jq_state.specs.Nodes.{env_at}
@@ -18,9 +18,9 @@ use Rattle.jq_state.specs.declared.items.Item as items
 use Rattle.jq_state.specs.declared.states.State.{State}
 use Rattle.jq_state.specs.declared.steps.Step.{Step}
 use Rattle.jq_state.proofs.shared.Items.{value_of_item}
-use Rattle.jq_backtracking.specs.declared.outcomes.Progress.{Progress}
+use Rattle.jq_transitions.specs.declared.backtracking.outcomes.Progress.{Progress}
 use Rattle.jq_engine.specs.private.Leading.{LeadsAfter, at_part, gives, ends, here, by_transition, by_run}
-use Rattle.jq_backtracking.specs.Outcomes.{Steps}
+use Rattle.jq_transitions.specs.Outcomes.{Steps}
 
 module _ (inputs : Run Value) (s : State) (t : Tree) (w : Step) (p : Scope) (x : Item) (u : State) (r : Progress) where
   abbrev frames : List Frame

@@ -1,19 +1,19 @@
 -- What an engine stands for.
 use Rattle.std.specs.Prelude.{◌≡◌, ℕ, [], ◌∷◌, length, map}
-use Rattle.jv_meaning.specs.Value.{Value}
+use Rattle.jv_data.specs.Value.{Value}
 use Rattle.jv_data.specs.View.{view}
 use Rattle.jq_ast.specs.Named.{named}
 use Rattle.jq_ast.specs.declared.tree.Tree.{Tree}
-use Rattle.jq_bindings.specs.Programs.{program_env}
+use Rattle.jq_meaning.specs.Programs.{program_env}
 use Rattle.jq_meaning.specs.Meaning.{meaning}
 use Rattle.jq_meaning.specs.Runs.{Run, Item, value_in, before, ended, plain}
-use Rattle.jq_machine.specs.Machine.{Produces}
+use Rattle.jq_meaning.specs.machine.Machine.{Produces}
 use Rattle.jq_state.specs.Inputs.{inputs_of}
 use Rattle.jq_state.specs.Listed.{items_in}
 use Rattle.jq_state.specs.Nexts.{stands}
 use Rattle.jq_state.specs.Nodes.{program_binding}
 use Rattle.jq_state.specs.declared.programs.ProgramBindings.{ProgramBindings}
-use Rattle.jq_backtracking.specs.Outcomes.{IsBare, ending_of}
+use Rattle.jq_transitions.specs.Outcomes.{IsBare, ending_of}
 use Rattle.jq_engine.specs.declared.doing.Doing.{Doing}
 use Rattle.jq_engine.specs.declared.doing.Doing.TheVariants as doing
 use Rattle.jq_engine.specs.declared.engines.Engine.{Engine}

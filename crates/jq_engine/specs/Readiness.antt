@@ -1,7 +1,7 @@
 -- When a run can go on: what is done next names what is there.
-use Rattle.jv_meaning.specs.Value.{Value}
+use Rattle.jv_data.specs.Value.{Value}
 use Rattle.jq_meaning.specs.Runs.{Run}
-use Rattle.jq_machine.specs.Heights.{Fit}
+use Rattle.jq_meaning.specs.machine.Heights.{Fit}
 use Rattle.jq_state.specs.Environments.{count_of}
 use Rattle.jq_state.specs.Nexts.{NextFits, stands}
 use Rattle.jq_state.specs.declared.next.Next.{Next}

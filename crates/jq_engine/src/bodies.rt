@@ -4,8 +4,8 @@ ghost use Rattle.jq_ast.specs.Named.{name_of, named};
 ghost use Rattle.jq_tree.specs.Tree.{no_trees};
 ghost use Rattle.jq_tree.specs.Tree as form;
 ghost use Rattle.jq_meaning.specs.Runs as runs;
-ghost use Rattle.jq_machine.specs.Evaluating as machine;
-ghost use Rattle.jq_machine.specs.State as abstract;
+ghost use Rattle.jq_meaning.specs.machine.Evaluating as machine;
+ghost use Rattle.jq_meaning.specs.machine.State as abstract;
 ghost use Rattle.jq_state.specs.Environments.{count_of};
 ghost use Rattle.jq_engine.specs.private.Forms.{EntersIn, RunsBody};
 

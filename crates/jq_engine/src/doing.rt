@@ -1,6 +1,6 @@
 // What an engine is doing.
-use jq_backtracking::Ending;
 use jq_state::next::Next;
+use jq_transitions::Ending;
 
 /// What an engine does when it is asked for the next output.
 #[derive(Drop)]

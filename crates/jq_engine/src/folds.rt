@@ -1,8 +1,8 @@
 // The steps of a fold with one variable, whose update may run at once.
 ghost use Rattle.std.specs.Prelude.{◌≡◌, ◌∷◌, ◌<◌, IfOk, IfSome};
-ghost use Rattle.jv_meaning.specs.Value.{Value};
+ghost use Rattle.jv_data.specs.Value.{Value};
 ghost use Rattle.jq_meaning.specs.Runs.{Run};
-ghost use Rattle.jq_machine.specs.State as abstract;
+ghost use Rattle.jq_meaning.specs.machine.State as abstract;
 ghost use Rattle.jq_state.specs.Environments.{count_of};
 ghost use Rattle.jq_state.specs.Inputs.{inputs_of};
 ghost use Rattle.jq_state.specs.Items.{item_of};
@@ -15,7 +15,6 @@ ghost use Rattle.jq_engine.specs.private.Leading.{Leads, at_frame};
 use crate::guards::Guard;
 use crate::parts::run_part;
 use jq_ast::Pattern;
-use jq_backtracking::Progress;
 use jq_state::environments;
 use jq_state::forks::Choice;
 use jq_state::frames::Scope;
@@ -23,6 +22,7 @@ use jq_state::inputs::Inputs;
 use jq_state::items::Item;
 use jq_state::states::State;
 use jq_state::steps::{Binder, Binding, Fold, Holding, Step, update_of};
+use jq_transitions::Progress;
 use jv_data::NoMemory;
 use std::alloc::Global;
 

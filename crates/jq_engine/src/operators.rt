@@ -1,6 +1,6 @@
 // Operators on the input and a constant, as in `. + 1`.
 ghost use Rattle.std.specs.Prelude.{◌≡◌, IfSome};
-ghost use Rattle.jv_meaning.specs.Value.{Value};
+ghost use Rattle.jv_data.specs.Value.{Value};
 ghost use Rattle.jv_data.specs.View.{view};
 ghost use Rattle.jq_ast.specs.Leaves.{literal_of, operator_of};
 ghost use Rattle.jq_ast.specs.Named.{named};

@@ -1,6 +1,6 @@
 // Filters of which a part is run first. If the part runs at once, what waits for its output goes on in the same step.
 ghost use Rattle.std.specs.Prelude.{◌<◌, IfOk};
-ghost use Rattle.jv_meaning.specs.Value.{Value};
+ghost use Rattle.jv_data.specs.Value.{Value};
 ghost use Rattle.jv_data.specs.View.{view};
 ghost use Rattle.jq_ast.specs.Named.{named};
 ghost use Rattle.jq_tree.specs.Tree as form;
@@ -14,9 +14,6 @@ ghost use Rattle.jq_engine.specs.private.Leading.{GoesOnAfter, Leads, LeadsAfter
 use crate::at_once::change;
 use crate::guards::Guard;
 use jq_ast::{Pattern, Tree};
-use jq_backtracking::{Progress, go_back_once, raise};
-use jq_evaluate::enter;
-use jq_receive::receive;
 use jq_single::Stop;
 use jq_state::frames::Scope;
 use jq_state::inputs::Inputs;
@@ -24,6 +21,7 @@ use jq_state::items::Item;
 use jq_state::next::Next;
 use jq_state::states::State;
 use jq_state::steps::{Binder, Binding, Step};
+use jq_transitions::{Progress, enter, go_back_once, raise, receive};
 use jv_data::{NoMemory, Val};
 use std::alloc::Global;
 

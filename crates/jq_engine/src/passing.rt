@@ -1,9 +1,9 @@
 // Items that go to the filter after a `|`, which may run at once.
 ghost use Rattle.std.specs.Prelude.{◌≡◌, ◌∷◌, ◌<◌, IfOk, IfSome};
-ghost use Rattle.jv_meaning.specs.Value.{Value};
+ghost use Rattle.jv_data.specs.Value.{Value};
 ghost use Rattle.jq_ast.specs.Named.{named};
 ghost use Rattle.jq_meaning.specs.Runs.{Run};
-ghost use Rattle.jq_machine.specs.State as abstract;
+ghost use Rattle.jq_meaning.specs.machine.State as abstract;
 ghost use Rattle.jq_state.specs.Environments.{count_of};
 ghost use Rattle.jq_state.specs.Inputs.{inputs_of};
 ghost use Rattle.jq_state.specs.Items.{item_of};
@@ -18,12 +18,12 @@ use crate::guards::Guard;
 use crate::putting::hand_on;
 use crate::tails::begin;
 use jq_ast::Tree;
-use jq_backtracking::{Progress, go_back_once, resume_newest};
 use jq_state::frames::Scope;
 use jq_state::inputs::Inputs;
 use jq_state::items::Item;
 use jq_state::states::State;
 use jq_state::steps::{Combining, Step};
+use jq_transitions::{Progress, go_back_once, resume_newest};
 use jv_data::NoMemory;
 use std::alloc::Global;
 

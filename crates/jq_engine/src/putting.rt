@@ -1,32 +1,30 @@
 // The end of a turn of an update `f |= g`, where `g` does not run at once. An output of `g` is the new part, and the turn is left with
 // the changed value. The frames of the turn are dropped before the value is changed, so that it is changed in place.
 ghost use Rattle.std.specs.Prelude.{◌≡◌, ◌∷◌, ◌<◌, IfOk, IfSome, codes};
-ghost use Rattle.jv_meaning.specs.Value.{Value};
+ghost use Rattle.jv_data.specs.Value.{Value};
 ghost use Rattle.jq_ast.specs.Named.{named};
 ghost use Rattle.jq_meaning.specs.Runs.{Run};
 ghost use Rattle.jq_meaning.specs.Runs as runs;
-ghost use Rattle.jq_machine.specs.State as abstract;
+ghost use Rattle.jq_meaning.specs.machine.State as abstract;
 ghost use Rattle.jq_state.specs.Environments.{count_of};
 ghost use Rattle.jq_state.specs.Items.{item_of};
 ghost use Rattle.jq_state.specs.Steps.{step_in};
 ghost use Rattle.jq_state.specs.Views.{frames_in, IsFirst};
 ghost use Rattle.jq_shapes.specs.Names.{HasPut};
 ghost use Rattle.jq_tree.specs.Tree as form;
-ghost use Rattle.jq_update_laws.specs.Body.{changed};
+ghost use Rattle.jq_meaning.specs.updates.Body.{changed};
 ghost use Rattle.jq_engine.specs.private.Leading.{Leads, at_filter, at_step, at_item};
 ghost use Rattle.jq_engine.specs.private.UpdateEnds.{EndsTurn, IsAround, IsInTurn, KeepsPart, WaitsForPart};
 
 use jq_ast::Tree;
-use jq_backtracking::{Progress, raise};
-use jq_operations::find_level;
-use jq_receive::receive;
+use jq_operations::{Setting, find_level, keep, keeping_of, put, setting_of};
 use jq_shapes::{Put, is_part_pattern, keep_in, put_in};
 use jq_state::frames::Scope;
 use jq_state::items::Item;
 use jq_state::next::Next;
 use jq_state::states::State;
 use jq_state::steps::{Binder, Binding, Fold, Holding, Step};
-use jq_updates::{Setting, keep, keeping_of, put, setting_of};
+use jq_transitions::{Progress, raise, receive};
 use jv_data::{Fail, NoMemory};
 use std::alloc::Global;
 

@@ -1,7 +1,7 @@
 // Transitions up to the next output, or to the ending.
 ghost use Rattle.std.specs.Prelude.{IfOk};
 ghost use Rattle.jq_meaning.specs.Runs as runs;
-ghost use Rattle.jq_machine.specs.Machine.{Produces};
+ghost use Rattle.jq_meaning.specs.machine.Machine.{Produces};
 ghost use Rattle.jq_state.specs.Inputs.{inputs_of};
 ghost use Rattle.jq_state.specs.Nexts.{stands};
 ghost use Rattle.jq_engine.specs.Readiness.{CanGoOn};
@@ -9,14 +9,14 @@ ghost use Rattle.jq_engine.specs.private.Reaching.{HasReached, IsReadyAfter};
 
 use crate::guards::Guard;
 use crate::stepping::step;
-use jq_backtracking::{Ending, Progress};
-use jq_machine::laws::{
+use jq_meaning::machine::{
     a_filter_may_run_at_once, a_transition_keeps_the_run, heights_stay_in_range,
 };
 use jq_state::inputs::Inputs;
 use jq_state::items::Item;
 use jq_state::next::Next;
 use jq_state::states::State;
+use jq_transitions::{Ending, Progress};
 use jv_data::NoMemory;
 use std::alloc::Global;
 

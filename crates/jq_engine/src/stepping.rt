@@ -2,7 +2,7 @@
 ghost use Rattle.std.specs.Prelude.{IfOk};
 ghost use Rattle.jq_state.specs.Environments.{count_of};
 ghost use Rattle.jq_state.specs.Inputs.{inputs_of};
-ghost use Rattle.jq_machine.specs.State as abstract;
+ghost use Rattle.jq_meaning.specs.machine.State as abstract;
 ghost use Rattle.jq_state.specs.Items.{item_of};
 ghost use Rattle.jq_state.specs.Nexts.{NextFits, stands};
 ghost use Rattle.jq_engine.specs.private.Leading.{Leads, at_item};
@@ -12,12 +12,11 @@ use crate::guards::Guard;
 use crate::passing::go_back;
 use crate::putting::hand_on;
 use crate::tails::evaluate;
-use jq_backtracking::{Ending, Progress, leave, raise};
-use jq_receive::{match_later, match_pattern};
 use jq_state::inputs::Inputs;
 use jq_state::items::Item;
 use jq_state::next::Next;
 use jq_state::states::State;
+use jq_transitions::{Ending, Progress, leave, match_later, match_pattern, raise};
 use jv_data::NoMemory;
 use std::alloc::Global;
 

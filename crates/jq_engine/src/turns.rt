@@ -1,5 +1,5 @@
 // What an engine returns.
-use jq_backtracking::Ending;
+use jq_transitions::Ending;
 use jv_data::Val;
 
 /// What an engine answers when it is asked for the next output.

@@ -1,6 +1,6 @@
 -- From the run of a program to the meaning of its filter.
 use Rattle.std.proofs.Common.{◌≡◌, ℕ, Bool, false, List, map, ap, sym, subst, ◌∙◌}
-use Rattle.jv_meaning.specs.Value.{Value}
+use Rattle.jv_data.specs.Value.{Value}
 use Rattle.jq_tree.specs.Prelude.{followed_by}
 use Rattle.jq_inputs.specs.declared.plans.Plan.{Plan}
 use Rattle.jq_ast.specs.Named.{named}

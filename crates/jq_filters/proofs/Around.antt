@@ -2,12 +2,12 @@
 use Rattle.std.proofs.Common.{◌≡◌, ℕ, List, [], ◌∷◌, ◌++◌, map, reverse, length, take, refl, sym, ap, ◌∙◌}
 use Rattle.std.proofs.lemmas.List.{reverse-append, length-map}
 use Rattle.std.proofs.Math.Seq.{take-length}
-use Rattle.jv_meaning.specs.Value.{Value}
+use Rattle.jv_data.specs.Value.{Value}
 use Rattle.jq_tree.specs.Tree.{Name}
 use Rattle.jq_ast.specs.Named.{named}
 use Rattle.jq_ast.specs.declared.tree.Function.{Function}
 use Rattle.jq_ast.specs.declared.tree.Tree.{Tree}
-use Rattle.jq_bindings.specs.Programs.{program_env, with_bindings}
+use Rattle.jq_meaning.specs.Programs.{program_env, with_bindings}
 use Rattle.jq_meaning.specs.Env as env
 use Rattle.jq_meaning.specs.Env.{Env, outermost, bound, with_variables}
 use Rattle.jq_meaning.specs.Meaning.{meaning}

@@ -2,12 +2,12 @@
 use Rattle.std.proofs.Common.{◌≡◌, ◌∙◌, ℕ, suc, ◌+◌, List, [], ◌∷◌, ◌++◌, Option, Some, None, IfSome, length, map, reverse, take, codes, refl, sym, ap, subst, arith}
 use Rattle.std.specs.Prelude.{if◌then◌else◌}
 use Rattle.std.proofs.lemmas.List.{length-map, length-reverse}
-use Rattle.jv_meaning.specs.Value.{Value}
+use Rattle.jv_data.specs.Value.{Value}
 use Rattle.jq_ast.specs.Named.{named}
 use Rattle.jq_ast.specs.declared.tree.Function.{Function}
 use Rattle.jq_ast.specs.declared.tree.Tree as ast
-use Rattle.jq_bindings.specs.Programs.{program_env, with_bindings}
-use Rattle.jq_bindings.specs.laws.Added.{functions_before}
+use Rattle.jq_meaning.specs.Programs.{program_env, with_bindings}
+use Rattle.jq_meaning.specs.laws.Added.{functions_before}
 use Rattle.jq_meaning.specs.Env.{Env, Binding, Callee, outermost, bound, value_of, function, found_function, no_callee, callee_or, find_callee, find_in_prelude, is_named, with_variables}
 use Rattle.jq_meaning.specs.Runs.{Run}
 use Rattle.jq_resolver.specs.Programs.{named_program}
@@ -17,8 +17,8 @@ use Rattle.jq_syntax.specs.laws.Computed.{prelude}
 use Rattle.jq_tree.specs.Prelude.{followed_by}
 use Rattle.jq_tree.specs.Tree.{Name, Tree}
 use Rattle.jq_tree.specs.Tree as tree
-use Rattle.jq_update_laws.specs.Body.{modify_body, modify_parameters}
-use Rattle.jq_update_laws.specs.Known.{HasModifyOf}
+use Rattle.jq_meaning.specs.updates.Body.{modify_body, modify_parameters}
+use Rattle.jq_meaning.specs.updates.Known.{HasModifyOf}
 use Rattle.jq_filters.proofs.Around.{added, variables_around}
 use Rattle.jq_filters.specs.Programs.{bindings_of, function_binding, value_binding}
 use Rattle.jq_filters.specs.laws.Updates.{ModifyIsKnown}

@@ -5,8 +5,8 @@ use Rattle.std.specs.Option.{option_or}
 use Rattle.std.proofs.lemmas.Bool.{and_parts, or_left, or_right, cases_Bool}
 use Rattle.std.proofs.lemmas.Bool.Decides.{Decides-eqb}
 use Rattle.jv_arith.specs.Arith.{neg_of}
-use Rattle.jv_meaning.specs.Members.{put}
-use Rattle.jv_meaning.specs.Value.{Value, null, number, string, array, items_of, Members, no_members}
+use Rattle.jv_data.specs.Members.{put}
+use Rattle.jv_data.specs.Value.{Value, null, number, string, array, items_of, Members, no_members}
 use Rattle.jv_text.specs.Stream.{Values, StreamEnd, clean, open_text, fault}
 use Rattle.jv_value.specs.Index.{index_of, slice_key}
 use Rattle.jv_value.specs.Parts.{parts_of}

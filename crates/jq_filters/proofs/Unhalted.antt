@@ -3,8 +3,8 @@ use Rattle.std.proofs.Common.{◌≡◌, ℕ, ℤ, List, [], ◌∷◌, ◌++◌
 use Rattle.std.specs.Prelude.{⊤, Option, Some, None, Result, Ok, Err, if◌then◌else◌, nat_eq, map, codes}
 use Rattle.std.specs.List.{range_with_len}
 use Rattle.std.specs.Ordering.{int_eq}
-use Rattle.jv_meaning.specs.Value.{Value, null, boolean, number, string, array, object, Members}
-use Rattle.jv_meaning.specs.Members.{put}
+use Rattle.jv_data.specs.Value.{Value, null, boolean, number, string, array, object, Members}
+use Rattle.jv_data.specs.Members.{put}
 use Rattle.jv_text.specs.Formats.{Text}
 use Rattle.jv_value.specs.Index.{index_of}
 use Rattle.jq_natives.specs.Answers.{Answer, is_true}

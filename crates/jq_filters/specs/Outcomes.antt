@@ -2,7 +2,7 @@
 use Rattle.std.specs.Prelude.{ℕ, List, [], ◌∷◌, ◌++◌, Bool, true, false, Option, Some, None, unwrap_or, if◌then◌else◌, codes, map}
 use Rattle.std.specs.List.{flat_map, list_any}
 use Rattle.std.specs.Option.{option_or}
-use Rattle.jv_meaning.specs.Value.{Value, null, string, array, items_of}
+use Rattle.jv_data.specs.Value.{Value, null, string, array, items_of}
 use Rattle.jv_text.specs.FaultWords.{fault_text}
 use Rattle.jv_text.specs.Printed.{printed, raw}
 use Rattle.jv_text.specs.Stream.{StreamEnd, clean, open_text, fault, Values}

@@ -1,6 +1,6 @@
 -- The outcome of runs on values that are all present.
 use Rattle.std.specs.Prelude.{ℕ, List, length}
-use Rattle.jv_meaning.specs.Value.{Value}
+use Rattle.jv_data.specs.Value.{Value}
 use Rattle.jv_text.specs.Stream.{Values, clean}
 use Rattle.jq_filters.specs.Outcomes.{Outcome, Mode, Job, runs_in, up_to_halt, stream_outcome}
 

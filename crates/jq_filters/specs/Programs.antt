@@ -1,6 +1,6 @@
 -- The bindings around a filter.
 use Rattle.std.specs.Prelude.{◌≡◌, List, ◌++◌, map, reverse}
-use Rattle.jv_meaning.specs.Value.{Value}
+use Rattle.jv_data.specs.Value.{Value}
 use Rattle.jq_tree.specs.Prelude.{IsPrelude, followed_by}
 use Rattle.jq_tree.specs.Tree.{Name}
 use Rattle.jq_tree.specs.Tree as tree

@@ -1,9 +1,9 @@
 -- What a filter does with a value, and how a command runs it.
 use Rattle.std.specs.Prelude.{ℕ, List, length, map}
-use Rattle.jv_meaning.specs.Value.{Value}
+use Rattle.jv_data.specs.Value.{Value}
 use Rattle.jq_ast.specs.Named.{named}
 use Rattle.jq_ast.specs.declared.tree.Tree.{Tree}
-use Rattle.jq_bindings.specs.Programs.{program_env}
+use Rattle.jq_meaning.specs.Programs.{program_env}
 use Rattle.jq_meaning.specs.Meaning.{meaning}
 use Rattle.jq_meaning.specs.Runs.{Run, Item, plain}
 use Rattle.jq_state.specs.Listed.{items_in}

@@ -1,5 +1,5 @@
 -- The run of a runner's filter.
-use Rattle.jv_meaning.specs.Value.{Value}
+use Rattle.jv_data.specs.Value.{Value}
 use Rattle.jq_meaning.specs.Runs.{Run, Item}
 use Rattle.jq_state.specs.Listed.{items_in}
 use Rattle.jq_filters.specs.Runner.{run_in}

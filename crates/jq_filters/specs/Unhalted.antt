@@ -1,6 +1,6 @@
 -- Filters of which no run halts.
 use Rattle.std.specs.Prelude.{◌≡◌, None}
-use Rattle.jv_meaning.specs.Value.{Value}
+use Rattle.jv_data.specs.Value.{Value}
 use Rattle.jq_meaning.specs.Runs.{Run, Item}
 use Rattle.jq_filters.specs.Outcomes.{halt_status}
 

@@ -1,6 +1,6 @@
 -- Compiled filters that are folds.
 use Rattle.std.proofs.Common.{◌≡◌, ℕ, Bool, suc, ◌+◌, List, [], ◌∷◌, map, length, true, refl, sym, ap, ap₂, ◌∙◌, subst, arith}
-use Rattle.jv_meaning.specs.Value.{Value}
+use Rattle.jv_data.specs.Value.{Value}
 use Rattle.jq_tree.specs.Tree.{Name}
 use Rattle.jq_tree.specs.Tree as tree
 use Rattle.jq_tree.specs.Filter as filter
@@ -11,7 +11,7 @@ use Rattle.jq_tree.specs.Prelude.{followed_by}
 use Rattle.jq_ast.specs.Named.{named}
 use Rattle.jq_ast.specs.declared.tree.Function.{Function}
 use Rattle.jq_ast.specs.declared.tree.Tree.{Tree}
-use Rattle.jq_bindings.specs.Programs.{program_env, with_bindings}
+use Rattle.jq_meaning.specs.Programs.{program_env, with_bindings}
 use Rattle.jq_meaning.specs.Env as env
 use Rattle.jq_meaning.specs.Env.{Env, outermost, bound, with_variables}
 use Rattle.jq_meaning.specs.Runs.{Run, none}

@@ -1,15 +1,15 @@
 -- The runs with which the pieces of a fold begin.
 use Rattle.std.proofs.Common.{◌≡◌, ℕ, [], Option, Some, None, true, refl, sym, ap, ◌∙◌, subst}
-use Rattle.jv_meaning.specs.Value.{Value, null}
+use Rattle.jv_data.specs.Value.{Value, null}
 use Rattle.jq_ast.specs.Named.{named}
 use Rattle.jq_tree.specs.Tree.{Tree}
 use Rattle.jq_tree.specs.Inputs.{at_most_one}
 use Rattle.jq_meaning.specs.Meaning.{meaning}
 use Rattle.jq_meaning.specs.Runs.{Run, Item, plain, none, one}
-use Rattle.jq_machine.specs.Heights.{Fit}
-use Rattle.jq_machine.specs.Machine.{Produces, after_end, after_output}
-use Rattle.jq_machine.specs.State.{Scope, state, evaluate, give}
-use Rattle.jq_machine.specs.laws.Starts.{start}
+use Rattle.jq_meaning.specs.machine.Heights.{Fit}
+use Rattle.jq_meaning.specs.machine.Machine.{Produces, after_end, after_output}
+use Rattle.jq_meaning.specs.machine.State.{Scope, state, evaluate, give}
+use Rattle.jq_meaning.specs.laws.Starts.{start}
 use Rattle.jq_state.specs.Environments.{count_of}
 use Rattle.jq_state.specs.Items.{item_of}
 use Rattle.jq_state.specs.Links.{scope_in}

@@ -1,6 +1,6 @@
 -- What the steps return is what the fold says.
 use Rattle.std.proofs.Common.{◌≡◌, ℕ, [], Option, Some, None, true, refl, ◌∙◌}
-use Rattle.jv_meaning.specs.Value.{Value, null}
+use Rattle.jv_data.specs.Value.{Value, null}
 use Rattle.jv_text.specs.declared.printing.Style.{Style}
 use Rattle.jq_meaning.specs.Runs.{plain, located}
 use Rattle.jq_engine.specs.Engine.{IsRest}

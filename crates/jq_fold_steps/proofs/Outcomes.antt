@@ -4,11 +4,11 @@ use Rattle.std.specs.Prelude.{nat_lt, unwrap_or, if◌then◌else◌}
 use Rattle.std.specs.List.{flat_map}
 use Rattle.std.specs.Option.{option_or}
 use Rattle.std.proofs.lemmas.Grind.{flat_map-append}
-use Rattle.jv_meaning.specs.Value.{Value, null}
+use Rattle.jv_data.specs.Value.{Value, null}
 use Rattle.jv_text.specs.declared.printing.Style.{Style}
 use Rattle.jq_ast.specs.Named.{named}
 use Rattle.jq_ast.specs.declared.tree.Tree.{Tree}
-use Rattle.jq_bindings.specs.Programs.{with_bindings}
+use Rattle.jq_meaning.specs.Programs.{with_bindings}
 use Rattle.jq_meaning.specs.Env.{Env, outermost, bound}
 use Rattle.jq_meaning.specs.Meaning.{meaning}
 use Rattle.jq_meaning.specs.Runs.{Run, Item, plain, Ending, Done, Raised, Broken, Stopped, deep, halted, none, value_in}

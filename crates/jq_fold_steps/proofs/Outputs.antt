@@ -5,7 +5,7 @@ use Rattle.std.specs.Option.{option_or}
 use Rattle.std.proofs.lemmas.Grind.{flat_map-append}
 use Rattle.jv_data.specs.View.{view}
 use Rattle.jv_data.specs.declared.values.Val.{Val}
-use Rattle.jv_meaning.specs.Value.{Value}
+use Rattle.jv_data.specs.Value.{Value}
 use Rattle.jv_text.specs.Printed.{printed}
 use Rattle.jv_text.specs.declared.printing.Style.{Style}
 use Rattle.jq_natives.specs.Answers.{is_true}
@@ -15,9 +15,9 @@ use Rattle.jq_folds.specs.laws.States.{LeadsTo}
 use Rattle.jq_pages.specs.Pieces.{PieceView, piece_view}
 use Rattle.jq_pages.specs.declared.pieces.Piece.{Piece}
 use Rattle.jq_filters.specs.Outcomes.{last_item, last_by, ending_report, is_failure, halt_status}
-use Rattle.jq_backtracking.specs.Outcomes.{ending_of}
-use Rattle.jq_backtracking.specs.declared.outcomes.Ending as code_ending
-use Rattle.jq_backtracking.specs.declared.outcomes.Ending.TheVariants as ending
+use Rattle.jq_transitions.specs.Outcomes.{ending_of}
+use Rattle.jq_transitions.specs.declared.backtracking.outcomes.Ending as code_ending
+use Rattle.jq_transitions.specs.declared.backtracking.outcomes.Ending.TheVariants as ending
 use Rattle.jq_filters.specs.Pieces.{last_in, piece_of}
 use Rattle.jq_fold_steps.specs.private.Collecting.{piece_so_far, valued, IsHeld, IsKept, IsAdded, IsReported}
 use Rattle.jq_fold_steps.specs.declared.fold_steps.FoldState.TheVariants as state

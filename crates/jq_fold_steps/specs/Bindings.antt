@@ -1,6 +1,6 @@
 -- The bindings around a filter.
 use Rattle.std.specs.Prelude.{List, length, map}
-use Rattle.jq_bindings.specs.Programs.{program_env}
+use Rattle.jq_meaning.specs.Programs.{program_env}
 use Rattle.jq_meaning.specs.Env.{Env}
 use Rattle.jq_meaning.specs.Runs.{none}
 use Rattle.jq_state.specs.Listed.{items_in}

@@ -1,6 +1,6 @@
 -- The fold that a filter is, as pages keep it.
 use Rattle.std.specs.Prelude.{ℕ, Bool, true, false, Option, Some, None}
-use Rattle.jv_meaning.specs.Value.{null}
+use Rattle.jv_data.specs.Value.{null}
 use Rattle.jv_text.specs.declared.printing.Style.{Style}
 use Rattle.jq_tree.specs.Inputs.{at_most_one}
 use Rattle.jq_meaning.specs.Meaning.{meaning}

@@ -2,7 +2,7 @@
 ghost use Rattle.std.specs.Prelude.{◌≡◌, ◌++◌, List, IfOk, OnOk};
 ghost use Rattle.jv_text.specs.declared.printing.Style.{Style as PrintStyle};
 ghost use Rattle.jq_meaning.specs.Runs.{Run, Item};
-ghost use Rattle.jq_backtracking.specs.Outcomes.{ending_of};
+ghost use Rattle.jq_transitions.specs.Outcomes.{ending_of};
 ghost use Rattle.jq_engine.specs.Engine.{IsRest};
 ghost use Rattle.jq_folds.specs.Pieces.{Stepped, with_state};
 ghost use Rattle.jq_folds.specs.laws.States.{LeadsTo};
@@ -12,9 +12,9 @@ ghost use Rattle.jq_fold_steps.specs.private.Collecting.{EndsStep, IsHeld, IsKep
 
 use crate::fold_steps::FoldState;
 use crate::pieces::{add_output, empty_piece, report};
-use jq_backtracking::Ending;
 use jq_engine::{Engine, Turn};
 use jq_pages::Piece;
+use jq_transitions::Ending;
 use jv_data::{NoMemory, Val};
 use jv_text::Style;
 use std::alloc::Global;

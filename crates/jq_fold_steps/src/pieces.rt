@@ -3,16 +3,16 @@ ghost use Rattle.std.specs.Prelude.{◌≡◌, ◌++◌, OnOk};
 ghost use Rattle.jv_data.specs.View.{view};
 ghost use Rattle.jv_text.specs.Printed.{printed};
 ghost use Rattle.jq_natives.specs.Answers.{is_true};
-ghost use Rattle.jq_backtracking.specs.Outcomes.{ending_of};
+ghost use Rattle.jq_transitions.specs.Outcomes.{ending_of};
 ghost use Rattle.jq_pages.specs.Pieces.{piece_view};
 ghost use Rattle.jq_filters.specs.Outcomes.{error_line, error_prefix, last_by};
 ghost use Rattle.jq_filters.specs.Pieces.{last_in, no_piece};
 ghost use Rattle.jq_fold_steps.specs.private.Collecting.{IsAdded, IsReported};
 
-use jq_backtracking::Ending;
 use jq_natives::truth;
 use jq_pages::{Last, Piece};
 use jq_state::next::Stop;
+use jq_transitions::Ending;
 use jv_data::{NoMemory, Val};
 use jv_text::{Style, print};
 use std::alloc::Global;

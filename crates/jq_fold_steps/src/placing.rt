@@ -1,6 +1,6 @@
 // The fold in a filter's tree.
 ghost use Rattle.std.specs.Prelude.{◌≡◌, ◌<◌, List, IfOk, IfSome, OnOk, option_map};
-ghost use Rattle.jv_meaning.specs.Value.{Value};
+ghost use Rattle.jv_data.specs.Value.{Value};
 ghost use Rattle.jq_ast.specs.Named.{named};
 ghost use Rattle.jq_meaning.specs.Env.{Env};
 ghost use Rattle.jq_meaning.specs.Runs.{Run};

@@ -18,7 +18,7 @@ use crate::taking::take_input;
 use jq_engine::Engine;
 use jq_filters::{Runner, no_inputs};
 use jq_folds::laws::the_machine_makes_the_pieces;
-use jq_machine::laws::{heights_stay_in_range, the_machine_makes_the_run_of_a_filter};
+use jq_meaning::machine::{heights_stay_in_range, the_machine_makes_the_run_of_a_filter};
 use jq_starts::Starts;
 use jq_state::frames::Scope;
 use jq_state::inputs::Inputs;

@@ -1,9 +1,9 @@
 // The state in which a fold takes an input.
 ghost use Rattle.std.specs.Prelude.{◌≡◌, ◌<◌, ◌∷◌, [], OnOk};
-ghost use Rattle.jv_meaning.specs.Value.{Value};
+ghost use Rattle.jv_data.specs.Value.{Value};
 ghost use Rattle.jv_data.specs.View.{view};
 ghost use Rattle.jq_meaning.specs.Runs.{Run, plain};
-ghost use Rattle.jq_machine.specs.State.{fork, last_state};
+ghost use Rattle.jq_meaning.specs.machine.State.{fork, last_state};
 ghost use Rattle.jq_state.specs.Environments.{count_of};
 ghost use Rattle.jq_state.specs.Links.{scope_in};
 ghost use Rattle.jq_state.specs.Views.{envs_in, frames_in, forks_in};

@@ -1,6 +1,6 @@
 -- Bindings after definitions.
 use Rattle.std.proofs.Common.{◌≡◌, List, [], ◌∷◌, refl, arith, length}
-use Rattle.jv_meaning.specs.Value.{Value}
+use Rattle.jv_data.specs.Value.{Value}
 use Rattle.jq_tree.specs.Tree.{Name, Tree}
 use Rattle.jq_tree.specs.Tree as tree
 use Rattle.jq_tree.specs.Names.{Scope, to_function, with_parameters}

@@ -1,12 +1,12 @@
 -- The next state of a fold, as the machine keeps it in a cell, and a run without frames.
 use Rattle.std.proofs.Common.{◌≡◌, List, [], ◌∷◌, refl, sym, ap, ◌∙◌}
-use Rattle.jv_meaning.specs.Value.{Value, null}
+use Rattle.jv_data.specs.Value.{Value, null}
 use Rattle.jq_meaning.specs.Runs.{Item, plain, located, Ending, Done, Raised, Broken, Stopped, Run, ended, none, before, go_on, then_run}
 use Rattle.jq_meaning.specs.Folds.{last_or, next_state}
-use Rattle.jq_machine.specs.State.{Cell}
-use Rattle.jq_machine.specs.Operations.{state_in, replace_state}
-use Rattle.jq_machine.proofs.Flow.{Cells, cell_after, feed, outside}
-use Rattle.jq_machine.proofs.Shapes.{missing}
+use Rattle.jq_meaning.specs.machine.State.{Cell}
+use Rattle.jq_meaning.specs.machine.Operations.{state_in, replace_state}
+use Rattle.jq_meaning.proofs.shared.machine.Flow.{Cells, cell_after, feed, outside}
+use Rattle.jq_meaning.proofs.shared.machine.Shapes.{missing}
 
 replace-all : (y : Item) (ys : List Item) → cell_after replace_state ys (y ∷ []) ≡ last_or y ys ∷ []
 replace-all y [] = refl

@@ -1,6 +1,6 @@
 -- How the pieces of a fold end.
 use Rattle.std.proofs.Common.{◌≡◌, ℕ, List, [], ◌∷◌, Option, Some, None, refl, sym, ap, ◌∙◌, subst}
-use Rattle.jv_meaning.specs.Value.{Value}
+use Rattle.jv_data.specs.Value.{Value}
 use Rattle.jq_tree.specs.Tree.{Tree}
 use Rattle.jq_meaning.specs.Runs.{Item, plain, Ending, Done, Raised, Broken, Stopped, Run, ended}
 use Rattle.jq_meaning.specs.Env.{Env}

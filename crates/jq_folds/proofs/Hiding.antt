@@ -1,7 +1,7 @@
 -- What a search in bindings finds, where they have other inputs.
 use Rattle.std.proofs.Common.{◌≡◌, ℕ, List, [], ◌∷◌, Bool, true, false, refl, ap, ◌∙◌, nat_eq, arith, length}
 use Rattle.std.specs.Prelude.{⊤, ◌&&◌, ◌||◌, Option, Some, bytes_eq, if◌then◌else◌}
-use Rattle.jv_meaning.specs.Value.{Value}
+use Rattle.jv_data.specs.Value.{Value}
 use Rattle.jq_tree.specs.Tree.{Name, Tree, Trees, no_trees, more_trees, trees_count}
 use Rattle.jq_tree.specs.Names.{Scope, to_function, is_bound, with_parameters}
 use Rattle.jq_tree.specs.Inputs.{inputs, count, count_trees}

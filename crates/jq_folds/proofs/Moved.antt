@@ -1,7 +1,7 @@
 -- Runs of bindings that have other inputs.
 use Rattle.std.proofs.Common.{◌≡◌, List, [], ◌∷◌, ◌++◌, refl, ap, ◌∙◌, subst}
 use Rattle.std.specs.Prelude.{⊤, map}
-use Rattle.jv_meaning.specs.Value.{Value}
+use Rattle.jv_data.specs.Value.{Value}
 use Rattle.jq_tree.specs.Names.{Scope}
 use Rattle.jq_meaning.specs.Runs.{Item, Ending, Done, Raised, Broken, Stopped, Run, before, go_on, then_run, bind, bind_items}
 use Rattle.jq_meaning.specs.Env.{Env}

@@ -2,7 +2,7 @@
 use Rattle.std.proofs.Common.{◌≡◌, ℕ, zero, suc, ◌+◌, pos, List, ◌∷◌, Bool, true, false, refl, sym, ap, ◌∙◌, subst, arith, length, nat_eq}
 use Rattle.std.specs.Prelude.{◌&&◌, not, codes, Option, Some, None, bytes_eq, if◌then◌else◌}
 use Rattle.std.proofs.lemmas.Slice.Eq.{bytes_eq-Decides}
-use Rattle.jv_meaning.specs.Value.{Value, number, string, Members, no_members}
+use Rattle.jv_data.specs.Value.{Value, number, string, Members, no_members}
 use Rattle.jq_natives.specs.declared.native.Native.{Native}
 use Rattle.jq_natives.specs.Natives.{native_named}
 use Rattle.jq_tree.specs.Tree.{Name, Tree, Trees, no_trees, more_trees, trees_count, Pieces, Entries, Pattern, Patterns, Parts}

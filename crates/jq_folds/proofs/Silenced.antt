@@ -1,6 +1,6 @@
 -- The pieces of a fold do not depend on the inputs that its bindings have.
 use Rattle.std.proofs.Common.{◌≡◌, ℕ, List, Option, Some, None, refl, ap}
-use Rattle.jv_meaning.specs.Value.{Value}
+use Rattle.jv_data.specs.Value.{Value}
 use Rattle.jq_tree.specs.Tree.{Tree}
 use Rattle.jq_tree.specs.Names.{Scope}
 use Rattle.jq_meaning.specs.Runs.{Item, Run, ended, bind}

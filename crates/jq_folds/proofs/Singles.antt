@@ -2,8 +2,8 @@
 use Rattle.std.proofs.Common.{◌≡◌, ℕ, Bool, true, false, refl, sym, ap, ◌∙◌, subst}
 use Rattle.std.specs.Prelude.{◌&&◌, Ok, Err}
 use Rattle.jv_arith.specs.Arith.{neg_of}
-use Rattle.jv_meaning.specs.Members.{put}
-use Rattle.jv_meaning.specs.Value.{Value, string, Members, no_members}
+use Rattle.jv_data.specs.Members.{put}
+use Rattle.jv_data.specs.Value.{Value, string, Members, no_members}
 use Rattle.jv_value.specs.Index.{index_of}
 use Rattle.jq_natives.specs.Answers.{Answer}
 use Rattle.jq_tree.specs.Tree.{Tree, Entries, no_entries, more_entries}
@@ -14,7 +14,7 @@ use Rattle.jq_meaning.specs.Env.{Env}
 use Rattle.jq_meaning.specs.Continuations.{on_target, on_left, on_right, negated, on_entry}
 use Rattle.jq_meaning.specs.Steps.{step_answer, operator_of}
 use Rattle.jq_meaning.specs.Meaning.{Means, meaning_with, entries_with}
-use Rattle.jq_machine.proofs.RunLaws.{bind-one}
+use Rattle.jq_meaning.proofs.shared.machine.RunLaws.{bind-one}
 use Rattle.jq_folds.proofs.Threading.{OneOrEnd, gives, ends, one_or_end}
 
 bind-single : {A B : Type 0} (r : Run A) (g : A → Run B) → OneOrEnd r → ((x : A) → OneOrEnd (g x)) → OneOrEnd (bind r g)

@@ -1,6 +1,6 @@
 -- From these states the machine makes the pieces of a fold.
 use Rattle.std.proofs.Common.{◌≡◌, ℕ, List, [], ◌∷◌, length, Option, Some, None, true, refl, sym, ap, ◌∙◌, subst, arith}
-use Rattle.jv_meaning.specs.Value.{Value}
+use Rattle.jv_data.specs.Value.{Value}
 use Rattle.jq_tree.specs.Tree.{Tree, Pattern}
 use Rattle.jq_tree.specs.Inputs.{at_most_one}
 use Rattle.jq_meaning.specs.Runs.{Item, plain, located, Ending, Done, Raised, Broken, Stopped, Run, ended, none, one, then_run, bind}
@@ -8,26 +8,26 @@ use Rattle.jq_meaning.specs.Env.{Env}
 use Rattle.jq_meaning.specs.Folds.{next_state, reduced, each_of}
 use Rattle.jq_meaning.specs.Continuations.{on_source, on_state}
 use Rattle.jq_meaning.specs.Meaning.{meaning, bindings_with, below}
-use Rattle.jq_machine.specs.State.{Scope, reducing, extracting, Cell}
-use Rattle.jq_machine.specs.Heights.{Fit, Fits}
-use Rattle.jq_machine.specs.Machine.{Produces}
-use Rattle.jq_machine.specs.Operations.{state_in, replace_state}
-use Rattle.jq_machine.proofs.Flow.{Cells, put, Rest, Flow, feed, outside, through_flow, source_flow, FoldBehaviour, folded}
-use Rattle.jq_machine.proofs.FlowLaws.{feed-bind}
-use Rattle.jq_machine.proofs.Behaviours.{through, fold_source, Waiting, rest, cuts_of}
-use Rattle.jq_machine.proofs.RestLaws.{rest-folded}
-use Rattle.jq_machine.proofs.Shapes.{missing, fold_of, give_state, nothing_of}
-use Rattle.jq_machine.proofs.ShapeLaws.{reduced-folded}
-use Rattle.jq_machine.proofs.Events.{Event, visit, output, outputs, erase, tick, on_output, store_output, marked}
-use Rattle.jq_machine.proofs.EventLaws.{FoldErases, erase-folded, erase-bind}
-use Rattle.jq_machine.proofs.Traced.{trace_fold, erases, fold-erases, t_bound}
-use Rattle.jq_machine.proofs.TracedMeaning.{traced, traced_below, traced_bindings, t_on_source, t_on_state}
-use Rattle.jq_machine.proofs.Reading.{run_at, traced_at, source_at, state_at, fold_at, to_come}
-use Rattle.jq_machine.proofs.Correct.{produces, start-produces}
+use Rattle.jq_meaning.specs.machine.State.{Scope, reducing, extracting, Cell}
+use Rattle.jq_meaning.specs.machine.Heights.{Fit, Fits}
+use Rattle.jq_meaning.specs.machine.Machine.{Produces}
+use Rattle.jq_meaning.specs.machine.Operations.{state_in, replace_state}
+use Rattle.jq_meaning.proofs.shared.machine.Flow.{Cells, put, Rest, Flow, feed, outside, through_flow, source_flow, FoldBehaviour, folded}
+use Rattle.jq_meaning.proofs.shared.machine.FlowLaws.{feed-bind}
+use Rattle.jq_meaning.proofs.shared.machine.Behaviours.{through, fold_source, Waiting, rest, cuts_of}
+use Rattle.jq_meaning.proofs.shared.machine.RestLaws.{rest-folded}
+use Rattle.jq_meaning.proofs.shared.machine.Shapes.{missing, fold_of, give_state, nothing_of}
+use Rattle.jq_meaning.proofs.shared.machine.ShapeLaws.{reduced-folded}
+use Rattle.jq_meaning.proofs.shared.machine.Events.{Event, visit, output, outputs, erase, tick, on_output, store_output, marked}
+use Rattle.jq_meaning.proofs.shared.machine.EventLaws.{FoldErases, erase-folded, erase-bind}
+use Rattle.jq_meaning.proofs.shared.machine.Traced.{trace_fold, erases, fold-erases, t_bound}
+use Rattle.jq_meaning.proofs.shared.machine.TracedMeaning.{traced, traced_below, traced_bindings, t_on_source, t_on_state}
+use Rattle.jq_meaning.proofs.shared.machine.Reading.{run_at, traced_at, source_at, state_at, fold_at, to_come}
+use Rattle.jq_meaning.proofs.shared.machine.Correct.{produces, start-produces}
 use Rattle.jq_folds.specs.Pieces.{state_of, if_done, stepped, begun, state_run, with_state}
 use Rattle.jq_folds.specs.Folding.{Fold, a_reduce, a_foreach, closing_tree, states_of, outputs_of, closed_by, steps_of}
 use Rattle.jq_folds.specs.laws.Machine.{closing_frames, begin_state, step_state, close_state}
-use Rattle.jq_machine.proofs.RunLaws.{then_run-assoc, bind-one, bind-one_right, bind-then_run, bind-bind, go_on-twice}
+use Rattle.jq_meaning.proofs.shared.machine.RunLaws.{then_run-assoc, bind-one, bind-one_right, bind-then_run, bind-bind, go_on-twice}
 use Rattle.jq_folds.proofs.Cells.{next-items, feed-outside}
 use Rattle.jq_folds.proofs.Singles.{single}
 use Rattle.jq_folds.proofs.Threading.{not_done, OneOrEnd, gives, ends, reduced-one, each-done, bind-done, next-bind, next-then, next-same, then-not, Kind, done, other, kind_of}

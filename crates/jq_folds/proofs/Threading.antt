@@ -3,12 +3,12 @@ use Rattle.std.proofs.Common.{◌≡◌, List, [], ◌∷◌, ◌++◌, refl, sy
 use Rattle.std.proofs.lemmas.List.{append-nil}
 use Rattle.std.specs.Prelude.{⊤, codes}
 use Rattle.std.specs.List.{flat_map}
-use Rattle.jv_meaning.specs.Value.{Value, null, string}
+use Rattle.jv_data.specs.Value.{Value, null, string}
 use Rattle.jq_meaning.specs.Runs.{Item, plain, located, Ending, Done, Raised, Broken, Stopped, Run, ended, none, one, go_on, then_run, bind, bind_items, path_error}
 use Rattle.jq_meaning.specs.Folds.{last_or, next_state, reduced, each_of}
 use Rattle.jq_folds.specs.Pieces.{FoldState, going, stopped, state_of, if_done, Steps, pieces_from}
 use Rattle.jq_folds.specs.laws.Statements.{joined}
-use Rattle.jq_machine.proofs.RunLaws.{then_run-assoc, bind-one}
+use Rattle.jq_meaning.proofs.shared.machine.RunLaws.{then_run-assoc, bind-one}
 
 -- ---- runs with one item or none
 

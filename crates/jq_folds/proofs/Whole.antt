@@ -1,7 +1,7 @@
 -- The run of a filter that folds its inputs is its pieces, one after the other.
 use Rattle.std.proofs.Common.{◌≡◌, ℕ, List, [], ◌∷◌, true, Option, Some, None, refl, sym, ap, ◌∙◌}
 use Rattle.std.specs.Prelude.{map}
-use Rattle.jv_meaning.specs.Value.{Value}
+use Rattle.jv_data.specs.Value.{Value}
 use Rattle.jq_tree.specs.Tree.{Tree, no_trees, Pattern}
 use Rattle.jq_tree.specs.Tree as tree
 use Rattle.jq_tree.specs.Inputs.{inputs, at_most_one}
@@ -15,7 +15,7 @@ use Rattle.jq_folds.specs.Pieces.{going, begun, Steps, pieces_from}
 use Rattle.jq_folds.specs.laws.Statements.{joined}
 use Rattle.jq_folds.specs.Folding.{Fold, a_reduce, a_foreach, closing_tree, bindings_of, states_of, steps_of, pieces_of}
 use Rattle.jq_folds.proofs.Parts.{HasParts, reduce_alone, reduce_piped, foreach_alone, foreach_piped, after_definition}
-use Rattle.jq_machine.proofs.RunLaws.{then_run-none, bind-one, bind-one_right, bind-then_run, bind-bind}
+use Rattle.jq_meaning.proofs.shared.machine.RunLaws.{then_run-none, bind-one, bind-one_right, bind-then_run, bind-bind}
 use Rattle.jq_folds.proofs.Threading.{OneOrEnd, gives, ends, reduced-one, reduced-then, each-then, bind-done, each-done, step-joined}
 use Rattle.jq_folds.proofs.Singles.{single}
 

@@ -1,6 +1,6 @@
 -- Filters that fold their inputs: their parts, and what each part does (manual of jq 1.7, "reduce", "foreach", "inputs").
 use Rattle.std.specs.Prelude.{ℕ, List, Option, Some, None}
-use Rattle.jv_meaning.specs.Value.{Value}
+use Rattle.jv_data.specs.Value.{Value}
 use Rattle.jq_tree.specs.Tree.{Tree, Pattern}
 use Rattle.jq_tree.specs.Tree as tree
 use Rattle.jq_meaning.specs.Runs.{Item, Run, ended, none, bind}

@@ -1,6 +1,6 @@
 -- The pieces of a fold over the inputs: one for the start, one for each input, and one for what follows the fold.
 use Rattle.std.specs.Prelude.{List, [], ◌∷◌}
-use Rattle.jv_meaning.specs.Value.{Value}
+use Rattle.jv_data.specs.Value.{Value}
 use Rattle.jq_meaning.specs.Runs.{Item, Ending, Done, Raised, Broken, Stopped, Run, ended, none, one, then_run}
 
 -- The state after some inputs. After an ending other than Done the fold has stopped.

@@ -1,12 +1,12 @@
 // Laws of folds over the inputs.
 ghost use Rattle.std.specs.Prelude.{◌≡◌, true, None};
-ghost use Rattle.jv_meaning.specs.Value.{Value};
+ghost use Rattle.jv_data.specs.Value.{Value};
 ghost use Rattle.jq_tree.specs.Inputs.{at_most_one};
 ghost use Rattle.jq_meaning.specs.Meaning.{meaning};
 ghost use Rattle.jq_meaning.specs.Runs.{Item, plain};
-ghost use Rattle.jq_machine.specs.Heights.{Fit};
-ghost use Rattle.jq_machine.specs.Machine.{Produces};
-ghost use Rattle.jq_machine.specs.State.{Scope};
+ghost use Rattle.jq_meaning.specs.machine.Heights.{Fit};
+ghost use Rattle.jq_meaning.specs.machine.Machine.{Produces};
+ghost use Rattle.jq_meaning.specs.machine.State.{Scope};
 ghost use Rattle.jq_folds.specs.Folding.{Fold, steps_of};
 ghost use Rattle.jq_folds.specs.Pieces.{begun, with_state};
 ghost use Rattle.jq_folds.specs.laws.Machine.{begin_state, step_state, close_state};

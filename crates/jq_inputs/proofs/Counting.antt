@@ -1,7 +1,7 @@
 -- The walk counts `inputs` as the definition does.
 use Rattle.std.proofs.Common.{◌≡◌, ◌∙◌, ℕ, suc, ◌+◌, ◌∷◌, Bool, true, false, ◌&&◌, not, nat_eq, bytes_eq, codes, if◌then◌else◌, length, ap, refl, arith}
 use Rattle.std.proofs.lemmas.Bool.{and_left, and_right, ne_eqb}
-use Rattle.jv_meaning.proofs.shared.Texts.{bytes_eq-sym}
+use Rattle.jv_data.proofs.shared.Texts.{bytes_eq-sym}
 use Rattle.jq_tree.specs.Tree.{Name, Tree, Trees, no_trees, more_trees, trees_count, Pieces, last_piece, more_pieces, Entry, Entries, no_entries, more_entries, Pattern, whole, Patterns, no_patterns, more_patterns, Part, Parts, no_parts, more_parts}
 use Rattle.jq_tree.specs.Tree as tree
 use Rattle.jq_tree.specs.Names.{Scope, to_function, is_bound, with_parameters}

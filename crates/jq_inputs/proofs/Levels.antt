@@ -4,7 +4,7 @@ use Rattle.std.proofs.lemmas.List.{length-map}
 use Rattle.std.specs.declared.alloc.Global.{Global}
 use Rattle.jq_tree.specs.Tree as t
 use Rattle.jq_tree.specs.Names.{to_function}
-use Rattle.jv_meaning.specs.Text.{text_of}
+use Rattle.jv_data.specs.Text.{text_of}
 use Rattle.jq_ast.specs.Named.{named, name_of, pieces_of, named_member, named_pattern, named_tree}
 use Rattle.jq_ast.specs.declared.names.Modify.{Modify}
 use Rattle.jq_ast.specs.declared.names.Name.{Name}

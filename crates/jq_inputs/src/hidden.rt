@@ -3,7 +3,7 @@ ghost use Rattle.std.specs.Prelude.{◌≡◌, ◌&&◌, ◌||◌, not, codes, b
 ghost use Rattle.std.specs.Char.{is_ascii};
 ghost use Rattle.std.specs.List.{list_all};
 ghost use Rattle.std.specs.Str.{chars};
-ghost use Rattle.jv_meaning.specs.Text.{text_of};
+ghost use Rattle.jv_data.specs.Text.{text_of};
 ghost use Rattle.jq_tree.specs.Names.{to_function, same_reference};
 ghost use Rattle.jq_inputs.specs.private.Hidden.{nothing_hidden, hiding, hiding_parameters, is_inputs, is_first, is_any, is_limit, is_halt};
 

@@ -11,7 +11,7 @@ use Rattle.jq_tree.specs.laws.Escapes.{hex_number}
 use Rattle.jq_lexer.specs.private.Strings as s
 use Rattle.jq_lexer.specs.private.Strings.{before, four_digits, if_low, low_surrogate, paired, by_unit, unicode_escape, first_character}
 use Rattle.jq_lexer.specs.private.Spots.{closing, taken_by, spot_after, IsEnd, IsFirstPiece}
-use Rattle.jv_meaning.specs.Text.{text_of}
+use Rattle.jv_data.specs.Text.{text_of}
 use Rattle.jq_lexer.specs.declared.strings.Piece as code
 
 -- ---- the first character of a string

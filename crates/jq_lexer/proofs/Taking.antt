@@ -14,7 +14,7 @@ use Rattle.jq_tree.proofs.shared.Missing.{no_word, no_longest}
 use Rattle.jq_tree.proofs.shared.Valueless.{no_token_there}
 use Rattle.jq_lexer.specs.private.Found.{IsWordAt, NoWordAt, Stands}
 use Rattle.jq_lexer.specs.private.Spots.{parenthesis_of, parentheses_of, tokens_of, spot_of, taken_by, spot_after, Takes, Keeps, AnswersLexed, TakesPiece, NoPiece, AnswersPiece, IsFirstPiece, IsWordStart}
-use Rattle.jv_meaning.specs.Text.{text_of}
+use Rattle.jv_data.specs.Text.{text_of}
 use Rattle.jq_lexer.specs.Places.{Begins, at_word, at_piece}
 use Rattle.jq_lexer.specs.Views.{token_of}
 use Rattle.jq_lexer.specs.declared.lexing.Parenthesis.{Parenthesis}

@@ -5,13 +5,13 @@ use Rattle.std.proofs.lemmas.Bool.{eqb-true, leb-true, lt-ltb, or_cases, and_fro
 use Rattle.std.proofs.lemmas.List.{append-nil, take-append-drop, take_all}
 use Rattle.std.proofs.lemmas.Slice.Eq.{bytes_eq-Decides}
 use Rattle.std.proofs.lemmas.Str.{encodes-append}
-use Rattle.jv_meaning.proofs.shared.Texts.{text_is}
+use Rattle.jv_data.proofs.shared.Texts.{text_is}
 use Rattle.jq_tree.specs.Token as token
 use Rattle.jq_tree.specs.Words.{every, is_letter, is_digit, is_e, is_name, is_name_character, is_keyword, spells_one_of, Numeral, Mantissa, whole_alone, with_point, point_first, Exponent, no_exponent, unsigned, with_plus, with_minus, IsNumeral, is_format_name, Spells, spells_keyword, spells_name, spells_field, spells_variable, spells_format, spells_number}
 use Rattle.jq_tree.proofs.shared.Fronts.{and_left, and_right, digits_each}
 use Rattle.jq_lexer.specs.private.Found.{keyword_in}
 use Rattle.jq_lexer.specs.private.Numbers.{IsValueOf}
-use Rattle.jv_meaning.specs.Text.{text_of}
+use Rattle.jv_data.specs.Text.{text_of}
 use Rattle.jq_lexer.specs.Views.{keyword_of}
 use Rattle.jq_lexer.specs.declared.spellings.TheConstants.{KEYWORDS}
 use Rattle.jq_lexer.specs.declared.tokens.Keyword.{Keyword}

@@ -1,6 +1,6 @@
 -- The tokens of the code as tokens of the definitions.
 use Rattle.std.specs.Prelude.{ℕ, List}
-use Rattle.jv_meaning.specs.Text.{text_of}
+use Rattle.jv_data.specs.Text.{text_of}
 use Rattle.jq_tree.specs.Token as token
 use Rattle.jq_tree.specs.Lexing as lexing
 use Rattle.jq_lexer.specs.declared.faults.LexFault.{LexFault}

@@ -3,7 +3,7 @@ ghost use Rattle.std.specs.Prelude.{◌≡◌, ◌+◌, ◌-◌, ◌*◌, ◌^�
 ghost use Rattle.jq_tree.specs.Lexing.{escaped, hex_value, is_high_surrogate, is_low_surrogate};
 ghost use Rattle.jq_lexer.specs.private.Strings.{escape, first_character, four_digits, low_surrogate, unicode_escape};
 ghost use Rattle.jq_lexer.specs.private.Spots.{IsEnd, IsFirstPiece};
-ghost use Rattle.jv_meaning.specs.Text.{text_of};
+ghost use Rattle.jv_data.specs.Text.{text_of};
 
 use std::alloc::{AllocError, Global};
 

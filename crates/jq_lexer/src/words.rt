@@ -3,7 +3,7 @@ ghost use Rattle.std.specs.Prelude.{◌≡◌, ◌∷◌, ◌≤◌, IfOk, lengt
 ghost use Rattle.std.specs.List.{prefix_len};
 ghost use Rattle.jq_tree.specs.Words.{is_letter, is_name_character, is_name, Spells};
 ghost use Rattle.jq_lexer.specs.private.Found.{first_symbol_in, keyword_in, HasForm, IsFirstWord, IsPlainStart, OnlySymbols, Stands};
-ghost use Rattle.jv_meaning.specs.Text.{text_of};
+ghost use Rattle.jv_data.specs.Text.{text_of};
 ghost use Rattle.jq_lexer.specs.Views.{token_of};
 ghost use Rattle.jq_lexer.specs.declared.words.Shape.TheVariants.{Number};
 

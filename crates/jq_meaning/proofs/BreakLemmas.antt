@@ -1,7 +1,7 @@
 -- Why a break never leaves the whole filter: a label's level is smaller than the levels of the labels inside it.
 use Rattle.std.proofs.Common.{◌≡◌, ℕ, suc, ◌<◌, List, [], ◌∷◌, Bool, true, false, nat_eq, refl, arith}
 use Rattle.std.specs.Prelude.{⊤, Option, Some, None, Ok, Err, if◌then◌else◌, bytes_eq, length}
-use Rattle.jv_meaning.specs.Value.{Value, null}
+use Rattle.jv_data.specs.Value.{Value, null}
 use Rattle.jq_natives.specs.Answers.{Answer}
 use Rattle.jq_tree.specs.Tree.{Name, Trees, no_trees, more_trees}
 use Rattle.jq_meaning.specs.Runs.{Item, plain, located, Run, Ending, Done, Raised, Broken, Stopped, one, go_on, then_run, bind_items, bind, answered, no_item, without_path, path_error, gathered, array_of_items, catch, kept, silenced, alternative, stopped, labelled}

@@ -4,8 +4,8 @@ use Rattle.std.specs.Prelude.{⊤, Option, Some, None, Result, Ok, Err, nat_le, 
 use Rattle.std.specs.List.{range_with_len}
 use Rattle.std.specs.Ordering.{int_eq}
 use Rattle.jv_arith.specs.Arith.{neg_of}
-use Rattle.jv_meaning.specs.Members.{put}
-use Rattle.jv_meaning.specs.Value.{Value, null, boolean, number, string, array, object, Members, no_members}
+use Rattle.jv_data.specs.Members.{put}
+use Rattle.jv_data.specs.Value.{Value, null, boolean, number, string, array, object, Members, no_members}
 use Rattle.jv_text.specs.Formats.{Text}
 use Rattle.jv_value.specs.Index.{index_of, slice_key}
 use Rattle.jv_value.specs.Parts.{parts_of}

@@ -1,8 +1,8 @@
 -- What is done with each item or value of a run, form by form. Each continuation has a name, so that a proof can refer to it.
 use Rattle.std.specs.Prelude.{ℕ, List, ◌++◌, codes, Bool, true, false, Option, Some, None, Ok, Err}
 use Rattle.jv_arith.specs.Arith.{neg_of}
-use Rattle.jv_meaning.specs.Members.{put}
-use Rattle.jv_meaning.specs.Value.{Value, null, boolean, number, string, Members}
+use Rattle.jv_data.specs.Members.{put}
+use Rattle.jv_data.specs.Value.{Value, null, boolean, number, string, Members}
 use Rattle.jv_text.specs.Formats.{Text, format_named, text_in}
 use Rattle.jv_text.specs.declared.formats.names.Format.{Format}
 use Rattle.jv_value.specs.Index.{index_of, slice_key}

@@ -1,6 +1,6 @@
 -- What names are bound to.
 use Rattle.std.specs.Prelude.{ℕ, List, [], ◌∷◌, Bool, ◌&&◌, bytes_eq, nat_eq, length, if◌then◌else◌, Option, Some, None}
-use Rattle.jv_meaning.specs.Value.{Value, null}
+use Rattle.jv_data.specs.Value.{Value, null}
 use Rattle.jq_tree.specs.Tree.{Name, Tree, Trees, no_trees, more_trees}
 use Rattle.jq_meaning.specs.Runs.{Run}
 

@@ -1,6 +1,6 @@
 -- Folds (manual of jq 1.7, "reduce", "foreach"): S is the type of what the source binds in each step.
 use Rattle.std.specs.Prelude.{List, [], ◌∷◌}
-use Rattle.jv_meaning.specs.Value.{null}
+use Rattle.jv_data.specs.Value.{null}
 use Rattle.jq_meaning.specs.Runs.{Item, plain, located, Ending, Run, ended, one, go_on, then_run, bind, path_error}
 
 -- the last of the items, or x if there is none

@@ -5,4 +5,7 @@ pub mod Steps
 pub mod Builtins
 pub mod Continuations
 pub mod Meaning
+pub mod Programs
+pub mod machine
+pub mod updates
 pub mod laws

@@ -1,6 +1,6 @@
 -- What a filter means: the run of its tree on an item (manual of jq 1.7; each form names its section in `jq_tree`).
 use Rattle.std.specs.Prelude.{ℕ, zero, suc, pos, List, [], ◌∷◌}
-use Rattle.jv_meaning.specs.Value.{Value, number, string, object, Members, no_members}
+use Rattle.jv_data.specs.Value.{Value, number, string, object, Members, no_members}
 use Rattle.jq_tree.specs.Tree.{Name, Tree, Trees, no_trees, more_trees, trees_count, Pieces, Entries, Pattern, Patterns, Parts}
 use Rattle.jq_tree.specs.Tree as tree
 use Rattle.jq_meaning.specs.Runs.{Item, plain, value_in, as_value, Run, Stopped, deep, ended, none, one, then_run, bind, without_path, gathered, catch, alternative, labelled}

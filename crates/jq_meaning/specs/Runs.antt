@@ -1,6 +1,6 @@
 -- What a filter does with an input: its outputs in order, and how it ends (manual of jq 1.7, "Basic filters").
 use Rattle.std.specs.Prelude.{ℕ, List, [], ◌∷◌, ◌++◌, map, filter, nat_eq, codes, if◌then◌else◌, Ok, Err}
-use Rattle.jv_meaning.specs.Value.{Value, string, array, items_of}
+use Rattle.jv_data.specs.Value.{Value, string, array, items_of}
 use Rattle.jq_natives.specs.Answers.{Answer, is_true}
 
 -- what nothing catches: calls nested too deep, or a halt with an exit status and the bytes of its message

@@ -2,7 +2,7 @@
 use Rattle.std.specs.Prelude.{List, [], ◌∷◌, ◌++◌, map, zip, Bool, true, false, not, Result, Ok, Err}
 use Rattle.std.specs.Ordering.{is_lt, is_le, is_gt, is_ge}
 use Rattle.jv_arith.specs.Arith.{add_of, sub_of, mul_of, div_of, rem_of}
-use Rattle.jv_meaning.specs.Value.{Value, compare}
+use Rattle.jv_data.specs.Value.{Value, compare}
 use Rattle.jv_value.specs.Index.{index_of}
 use Rattle.jv_value.specs.Parts.{parts_of}
 use Rattle.jq_natives.specs.Answers.{Answer, yes_or_no, is_same, part_keys}

@@ -2,7 +2,7 @@
 
 ghost use Rattle.std.specs.Prelude.{◌≡◌, ◌↔◌, ℕ, ◌<◌, ℤ, pos, negsuc, ◌+ℤ◌, ◌*ℤ◌, ◌<ℤ◌, List, true};
 ghost use Rattle.std.specs.List.{list_all};
-ghost use Rattle.jv_meaning.specs.Value.{Value};
+ghost use Rattle.jv_data.specs.Value.{Value};
 ghost use Rattle.jq_tree.specs.Tree.{Name, Tree};
 ghost use Rattle.jq_natives.specs.Natives.{table};
 ghost use Rattle.jq_tree.specs.Names.{core_names, natives, formats, is_bound, to_function};

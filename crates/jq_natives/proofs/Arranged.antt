@@ -4,7 +4,7 @@ use Rattle.std.proofs.lemmas.List.Sorted.{sorted_far, IsPermutation-refl, IsPerm
 use Rattle.std.specs.Prelude.{⊤, filter, if◌then◌else◌}
 use Rattle.std.specs.Cmp.{IsStrictWeakOrder}
 use Rattle.std.specs.List.Sorted.{IsPermutation, IsSortedBy, IsStableBy, ties}
-use Rattle.jv_meaning.proofs.Order.{compare_total}
+use Rattle.jv_data.proofs.shared.Order.{compare_total}
 use Rattle.jq_natives.specs.Sorting.{Keyed, key, kept_item, below_key, put_by, sorted_by, sorted, last_of_group}
 use Rattle.jq_natives.specs.laws.Sorting.{IsArranged}
 

@@ -8,8 +8,8 @@ use Rattle.std.specs.Fn.{Called, ComparesAs}
 use Rattle.std.specs.List.Sorted.{IsSortedBy, IsStableBy}
 use Rattle.std.specs.Ordering.{is_lt}
 use Rattle.std.specs.declared.cmp.Ordering.{Ordering}
-use Rattle.jv_meaning.proofs.Order.{compare_total}
-use Rattle.jv_meaning.specs.Value.{Value, compare}
+use Rattle.jv_data.proofs.shared.Order.{compare_total}
+use Rattle.jv_data.specs.Value.{Value, compare}
 use Rattle.jq_natives.specs.Sorting.{sorted_by}
 use Rattle.jq_natives.proofs.Arranged.{sorted_by_is}
 use denote.Param.Members.{Mut}

@@ -3,7 +3,7 @@ use Rattle.std.proofs.Common.{◌≡◌, ℕ, List, [], ◌∷◌, true, map, re
 use Rattle.std.proofs.lemmas.Bool.{and_parts}
 use Rattle.std.specs.Prelude.{Some}
 use Rattle.std.specs.List.{list_all}
-use Rattle.jv_meaning.specs.Value.{items_of}
+use Rattle.jv_data.specs.Value.{items_of}
 use Rattle.jq_natives.specs.Answers.{count}
 use Rattle.jq_natives.specs.Texts.{is_code_point, code_points}
 

@@ -1,7 +1,7 @@
 -- A failure stays a failure, whatever is done with an answer.
 use Rattle.std.proofs.Common.{Result, refl}
 use Rattle.jv_data.specs.Fails.{FailsAs}
-use Rattle.jv_meaning.specs.Value.{Value}
+use Rattle.jv_data.specs.Value.{Value}
 use Rattle.jv_data.specs.declared.failures.Fail.{Fail}
 use Rattle.jv_data.specs.declared.failures.Fail.TheVariants.{Raised, NoMemory}
 use Rattle.jv_value.specs.Results.{map_ok}

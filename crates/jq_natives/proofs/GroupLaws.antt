@@ -1,8 +1,8 @@
 -- The groups of a list: one after the other they are the list, and neighbours have different keys.
 use Rattle.std.proofs.Common.{◌≡◌, List, [], ◌∷◌, ◌++◌, Bool, true, false, refl, ap, sym, ◌∙◌}
 use Rattle.std.specs.Prelude.{flat_map, if◌then◌else◌}
-use Rattle.jv_meaning.proofs.Order.{same_Decides}
-use Rattle.jv_meaning.specs.Value.{Value}
+use Rattle.jv_data.proofs.shared.Order.{same_Decides}
+use Rattle.jv_data.specs.Value.{Value}
 use Rattle.jq_natives.specs.Answers.{is_same}
 use Rattle.jq_natives.specs.Sorting.{Keyed, key, join_group, groups}
 use Rattle.jq_natives.specs.laws.Sorting.{HaveKey, IsApart, AreGroups}

@@ -2,8 +2,8 @@
 use Rattle.std.proofs.Common.{◌≡◌, ◌≢◌, ◌∙◌, List, [], ◌∷◌, ◌++◌, Bool, true, false, length, refl, sym, ap}
 use Rattle.std.proofs.lemmas.List.{append-nil}
 use Rattle.std.specs.Prelude.{⊤, if◌then◌else◌}
-use Rattle.jv_meaning.proofs.Order.{same_Decides}
-use Rattle.jv_meaning.specs.Value.{Value}
+use Rattle.jv_data.proofs.shared.Order.{same_Decides}
+use Rattle.jv_data.specs.Value.{Value}
 use Rattle.jq_natives.specs.Answers.{is_same}
 use Rattle.jq_natives.specs.private.SortedItems.{goes_with}
 use Rattle.jq_natives.specs.Sorting.{Keyed, key, join_group, groups}

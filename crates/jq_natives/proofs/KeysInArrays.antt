@@ -2,7 +2,7 @@
 use Rattle.std.proofs.Common.{◌≡◌, ◌∙◌, inl, inr, List, [], ◌∷◌, Bool, true, false, Ordering, Less, Equal, Greater, map, refl, ap, zip}
 use Rattle.std.specs.Prelude.{if◌then◌else◌}
 use Rattle.std.specs.Ordering.{is_eq, is_lt, ordering_then}
-use Rattle.jv_meaning.specs.Value.{Value, array, items_of, compare}
+use Rattle.jv_data.specs.Value.{Value, array, items_of, compare}
 use Rattle.jq_natives.specs.Answers.{is_same}
 use Rattle.jq_natives.specs.private.SortedItems.{AreKeysOf, IgnoresArrays, in_array, key_in_array}
 use Rattle.jq_natives.specs.Sorting.{Keyed, key, kept_item, below_key, put_by, sorted, join_group, groups, array_of, first_of_group, last_of_group}

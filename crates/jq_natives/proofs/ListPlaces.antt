@@ -9,7 +9,7 @@ use Rattle.std.specs.Slice.{IsItemAt}
 use Rattle.std.specs.Cmp.Lexicographic.{pointwise}
 use Rattle.std.specs.List.{starts_with, range_with_len}
 use Rattle.std.specs.Prelude.{filter, ◌&&◌, slice_get, unwrap_or}
-use Rattle.jv_meaning.specs.Value.{Value, null, array}
+use Rattle.jv_data.specs.Value.{Value, null, array}
 use Rattle.jv_data.specs.View.{items_view, view}
 use Rattle.jv_data.specs.declared.values.Val.{Val}
 use Rattle.jq_natives.specs.Searching.{places_of, last_item, last_of}

@@ -5,7 +5,7 @@ use Rattle.std.specs.Char.{is_ascii}
 use Rattle.std.specs.List.{list_all}
 use Rattle.std.specs.Prelude.{◌&&◌}
 use Rattle.std.specs.Str.{IsUtf8, bytes_eq, chars}
-use Rattle.jv_meaning.proofs.shared.Ascii.{same_as_ascii}
+use Rattle.jv_data.proofs.shared.Ascii.{same_as_ascii}
 use Rattle.jq_natives.specs.Natives.{NativeEntry, native_in, native_named, table}
 
 abbrev are_ascii : List NativeEntry → Bool

@@ -1,7 +1,7 @@
 -- Arrays that are flattened, the innermost one first.
 use Rattle.std.proofs.Common.{◌≡◌, ◌∙◌, ℕ, zero, suc, ◌+◌, ◌-◌, ◌<◌, List, [], ◌∷◌, ◌++◌, Ok, map, refl, sym, ap, arith, append_assoc}
 use Rattle.std.proofs.lemmas.List.{append-nil}
-use Rattle.jv_meaning.specs.Value.{Value, null, boolean, number, string, array, object, Items, no_items, item, items_of, values_of, Members, no_members, member, entries_of}
+use Rattle.jv_data.specs.Value.{Value, null, boolean, number, string, array, object, Items, no_items, item, items_of, values_of, Members, no_members, member, entries_of}
 use Rattle.jv_data.specs.View.{items_view}
 use Rattle.jv_value.specs.Parts.{parts_of}
 use Rattle.jv_value.specs.Results.{map_ok}

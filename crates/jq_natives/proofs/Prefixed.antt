@@ -1,7 +1,7 @@
 -- Options: lists after what was made before, and numbers.
 use Rattle.std.proofs.Common.{◌≡◌, ℕ, ℤ, List, [], ◌∷◌, ◌++◌, Bool, true, false, Option, Some, None, Ok, option_map, refl, sym, ap, pos}
 use Rattle.std.specs.Prelude.{if◌then◌else◌}
-use Rattle.jv_meaning.specs.Value.{Value, number, Items, no_items, item}
+use Rattle.jv_data.specs.Value.{Value, number, Items, no_items, item}
 use Rattle.std.specs.Option.{option_map_or}
 use Rattle.jq_natives.specs.Answers.{Answer}
 use Rattle.jq_natives.specs.Texts.{is_code_point, code_points}

@@ -4,7 +4,7 @@ use Rattle.std.proofs.lemmas.Bool.{eq-eqb, eqb-true}
 use Rattle.std.proofs.lemmas.Bool.Decides.{same_from_decides}
 use Rattle.std.specs.Bool.{nat_eq, Decides}
 use Rattle.jv_data.specs.Kind.{kind_of}
-use Rattle.jv_meaning.specs.Value.{Value, null, boolean, number, string, array, object, rank}
+use Rattle.jv_data.specs.Value.{Value, null, boolean, number, string, array, object, rank}
 use Rattle.jv_data.specs.contracts.kinds.Kind.{the_type}
 use Rattle.jv_data.specs.declared.kinds.Kind.{Kind}
 use Rattle.jv_data.specs.declared.kinds.Kind.TheVariants.{Null, Boolean, Number, String, Array, Object}

@@ -10,7 +10,7 @@ use Rattle.std.specs.Prelude.{◌||◌}
 use Rattle.std.specs.List.{list_any, starts_with, range_with_len}
 use Rattle.std.specs.Str.{chars, IsUtf8, IsCharBoundary}
 use Rattle.std.specs.Str.Pattern.{FindsText, HasMatch}
-use Rattle.jv_meaning.proofs.shared.Texts.{bytes_around}
+use Rattle.jv_data.proofs.shared.Texts.{bytes_around}
 use Rattle.jq_natives.specs.Containment.{is_within}
 use lib.Utf8.{encodes}
 

@@ -3,7 +3,7 @@ use Rattle.std.specs.Prelude.{ℕ, pos, List, [], ◌++◌, length, Bool, true, 
 use Rattle.std.specs.List.{range_with_len}
 use Rattle.std.specs.Ordering.{is_eq}
 use Rattle.jv_data.specs.Kind.{kind_name}
-use Rattle.jv_meaning.specs.Value.{Value, null, boolean, number, string, array, object, keys, items_of, values_of, compare}
+use Rattle.jv_data.specs.Value.{Value, null, boolean, number, string, array, object, keys, items_of, values_of, compare}
 
 abbrev pub Answer : Type 0
 Answer = Result Value Value

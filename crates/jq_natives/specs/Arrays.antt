@@ -4,7 +4,7 @@ use Rattle.std.specs.Option.{option_map_or}
 use Rattle.std.specs.List.{range_with_len}
 use Rattle.jv_data.specs.Fails.{raised, raised_kind}
 use Rattle.jv_value.specs.ErrorTexts.{cannot_iterate}
-use Rattle.jv_meaning.specs.Value.{Value, null, number, string, array, object, Items, no_items, item, Members, no_members, member, items_of, values_of}
+use Rattle.jv_data.specs.Value.{Value, null, number, string, array, object, Items, no_items, item, Members, no_members, member, items_of, values_of}
 use Rattle.jq_natives.specs.Answers.{Answer}
 use Rattle.jq_natives.specs.Lists.{lists_of}
 

@@ -3,8 +3,8 @@ use Rattle.std.specs.Prelude.{ℕ, ◌+◌, List, length, drop, nat_eq, Bool, tr
 use Rattle.std.specs.Option.{option_map_or}
 use Rattle.std.specs.List.{list_any, starts_with, range_with_len}
 use Rattle.jv_data.specs.Fails.{raised_kinds}
-use Rattle.jv_meaning.specs.Members.{member_at}
-use Rattle.jv_meaning.specs.Value.{Value, string, array, object, Items, no_items, item, values_of, Members, no_members, member, rank}
+use Rattle.jv_data.specs.Members.{member_at}
+use Rattle.jv_data.specs.Value.{Value, string, array, object, Items, no_items, item, values_of, Members, no_members, member, rank}
 use Rattle.jq_natives.specs.Answers.{Answer, yes_or_no, is_same}
 
 -- the part occurs in the whole text

@@ -1,5 +1,5 @@
 -- The formats of strings as natives (manual of jq 1.7, "Format strings and escaping").
-use Rattle.jv_meaning.specs.Value.{Value, string}
+use Rattle.jv_data.specs.Value.{Value, string}
 use Rattle.jv_text.specs.Formats.{text_in}
 use Rattle.jv_text.specs.declared.formats.names.Format.{Format}
 use Rattle.jv_value.specs.Results.{map_ok}

@@ -1,7 +1,7 @@
 -- The kind of a value as a word, and its negation (manual of jq 1.7, "type", "not").
 use Rattle.std.specs.Prelude.{not, Ok}
 use Rattle.jv_data.specs.Kind.{kind_name}
-use Rattle.jv_meaning.specs.Value.{Value, string}
+use Rattle.jv_data.specs.Value.{Value, string}
 use Rattle.jq_natives.specs.Answers.{Answer, yes_or_no, is_true}
 
 abbrev pub type_of : Value → Answer

@@ -1,6 +1,6 @@
 -- Arrays of arrays.
 use Rattle.std.specs.Prelude.{List, [], ◌∷◌, Option, Some, None, option_map}
-use Rattle.jv_meaning.specs.Value.{Value, array, Items, no_items, item, values_of}
+use Rattle.jv_data.specs.Value.{Value, array, Items, no_items, item, values_of}
 
 -- the items of each item, if each is an array
 abbrev pub lists_of : Items → Option (List (List Value))

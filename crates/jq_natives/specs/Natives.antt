@@ -1,6 +1,6 @@
 -- The natives by name and number of arguments, and what each answers: a line in `table` and a line in `answer_of_native`.
 use Rattle.std.specs.Prelude.{ℕ, List, [], ◌∷◌, ◌&&◌, bytes_eq, nat_eq, codes, if◌then◌else◌, Option, Some, None, Err}
-use Rattle.jv_meaning.specs.Value.{Value, null}
+use Rattle.jv_data.specs.Value.{Value, null}
 use Rattle.jq_natives.specs.declared.native.Native.{Native}
 use Rattle.jq_natives.specs.declared.native.Native.TheVariants.{Length, Utf8ByteLength, Keys, KeysUnsorted, Has, Contains, TypeName, Not, ToString, ToJson, ToNumber, FromJson, Explode, Implode, Split, StartsWith, EndsWith, TrimStart, TrimEnd, AsciiDowncase, AsciiUpcase, SortBy, GroupBy, UniqueBy, MinBy, MaxBy, Reverse, Flatten, Indices, Index, LastIndex, Transpose, Error, GetPath, SetPath, DelPaths}
 use Rattle.jq_natives.specs.declared.native.Native.TheVariants as native

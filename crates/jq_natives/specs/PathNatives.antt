@@ -2,7 +2,7 @@
 use Rattle.std.specs.Prelude.{codes}
 use Rattle.std.specs.Option.{option_map_or}
 use Rattle.jv_data.specs.Fails.{raised}
-use Rattle.jv_meaning.specs.Value.{Value, array, values_of}
+use Rattle.jv_data.specs.Value.{Value, array, values_of}
 use Rattle.jv_value.specs.DeletePaths.{delpaths_of}
 use Rattle.jv_value.specs.GetPath.{getpath_of}
 use Rattle.jv_value.specs.SetPath.{setpath_of}

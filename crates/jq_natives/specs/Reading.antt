@@ -2,7 +2,7 @@
 use Rattle.std.specs.Prelude.{ℕ, List, ◌++◌, length, codes, true, Result, Ok, Err, encode_utf8_all}
 use Rattle.std.specs.Option.{option_map_or}
 use Rattle.jv_data.specs.Fails.{raised, raised_kind}
-use Rattle.jv_meaning.specs.Value.{Value, number, string}
+use Rattle.jv_data.specs.Value.{Value, number, string}
 use Rattle.jq_natives.specs.Answers.{Answer}
 use Rattle.jv_text.specs.FaultWords.{fault_words}
 use Rattle.jv_number.specs.Number.{number_value}

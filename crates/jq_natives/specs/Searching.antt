@@ -2,7 +2,7 @@
 use Rattle.std.specs.Prelude.{ℕ, List, [], ◌∷◌, length, drop, nat_eq, Bool, filter, codes, Ok}
 use Rattle.std.specs.List.{starts_with, range_with_len}
 use Rattle.jv_data.specs.Fails.{raised_kinds}
-use Rattle.jv_meaning.specs.Value.{Value, null, string, array, Items, no_items, item, values_of}
+use Rattle.jv_data.specs.Value.{Value, null, string, array, Items, no_items, item, values_of}
 use Rattle.jv_value.specs.Results.{map_ok}
 use Rattle.jq_natives.specs.Answers.{Answer, counts, is_same}
 

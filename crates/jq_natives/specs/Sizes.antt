@@ -2,8 +2,8 @@
 -- (manual of jq 1.7, "length", "utf8bytelength", "keys, keys_unsorted", "has(key)").
 use Rattle.std.specs.Prelude.{pos, length, codes, nat_abs, int_le, int_lt, ◌&&◌, Ok, is_some, encode_utf8_all}
 use Rattle.jv_data.specs.Fails.{raised, raised_kind}
-use Rattle.jv_meaning.specs.Members.{member_at}
-use Rattle.jv_meaning.specs.Value.{Value, null, boolean, number, string, array, object, values_of, items_of, keys}
+use Rattle.jv_data.specs.Members.{member_at}
+use Rattle.jv_data.specs.Value.{Value, null, boolean, number, string, array, object, values_of, items_of, keys}
 use Rattle.jq_natives.specs.Answers.{Answer, cannot_check, yes_or_no, count, part_keys}
 use Rattle.jv_arith.specs.Numbers.{in_range}
 

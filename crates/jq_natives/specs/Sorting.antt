@@ -3,7 +3,7 @@
 use Rattle.std.specs.Prelude.{ℕ, List, [], ◌∷◌, length, map, nat_eq, Bool, codes, if◌then◌else◌, Ok, zip}
 use Rattle.std.specs.Ordering.{is_lt}
 use Rattle.jv_data.specs.Fails.{raised, raised_kind}
-use Rattle.jv_meaning.specs.Value.{Value, null, array, items_of, values_of, compare}
+use Rattle.jv_data.specs.Value.{Value, null, array, items_of, values_of, compare}
 use Rattle.jq_natives.specs.Answers.{Answer, is_same}
 
 -- an item of an array with the key that it is sorted by

@@ -4,7 +4,7 @@ use Rattle.std.specs.Prelude.{ℕ, ◌+◌, ◌-◌, pos, List, [], ◌∷◌, l
 use Rattle.std.specs.Option.{option_map_or}
 use Rattle.std.specs.List.{starts_with, ends_with}
 use Rattle.jv_data.specs.Fails.{raised, raised_kind}
-use Rattle.jv_meaning.specs.Value.{Value, number, string, array, Items, no_items, item, items_of}
+use Rattle.jv_data.specs.Value.{Value, number, string, array, Items, no_items, item, items_of}
 use Rattle.jq_natives.specs.Answers.{Answer, yes_or_no, counts}
 use Rattle.jv_arith.specs.Strings.{split_of}
 use Rattle.jv_text.specs.Printed.{json_text, text_of_value}

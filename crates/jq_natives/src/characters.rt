@@ -2,8 +2,8 @@
 ghost use Rattle.std.specs.Prelude.{◌≡◌, ◌∷◌, [], IfOk, map, option_map};
 ghost use Rattle.std.specs.Str.{chars};
 ghost use Rattle.jv_data.specs.Fails.{AnswersAs, FailsAs};
-ghost use Rattle.jv_meaning.specs.Value.{item, no_items};
-ghost use Rattle.jv_meaning.specs.Text.{text_of};
+ghost use Rattle.jv_data.specs.Value.{item, no_items};
+ghost use Rattle.jv_data.specs.Text.{text_of};
 ghost use Rattle.jv_data.specs.View.{items_view, view};
 ghost use Rattle.jq_natives.specs.Answers.{count};
 ghost use Rattle.jq_natives.specs.Texts.{ascii_downcase_of, ascii_lower, ascii_upcase_of, ascii_upper, code_points, explode_of, implode_error, implode_of};

@@ -1,6 +1,6 @@
 // The errors of natives. If there is no memory for the text, the failure is out of memory.
 ghost use Rattle.jv_data.specs.Fails.{FailsAs, raised};
-ghost use Rattle.jv_meaning.specs.Value.{Value};
+ghost use Rattle.jv_data.specs.Value.{Value};
 ghost use Rattle.jv_data.specs.View.{view};
 ghost use Rattle.jq_natives.specs.Answers.{cannot_check, error_of};
 

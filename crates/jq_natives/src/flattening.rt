@@ -1,7 +1,7 @@
 // Flattened arrays.
 ghost use Rattle.std.specs.Prelude.{◌≡◌, ◌<◌, IfOk, MatchOption, map};
 ghost use Rattle.jv_data.specs.Fails.{AnswersAs};
-ghost use Rattle.jv_meaning.specs.Value.{array};
+ghost use Rattle.jv_data.specs.Value.{array};
 ghost use Rattle.jv_data.specs.View.{items_view, view};
 ghost use Rattle.jq_natives.specs.Arrays.{flatten_of, flattened, opened};
 ghost use Rattle.jq_natives.specs.private.Flattened.{StaysWhole};

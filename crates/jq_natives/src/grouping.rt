@@ -1,7 +1,7 @@
 // Grouping by keys.
 ghost use Rattle.std.specs.Prelude.{◌≡◌, IfOk, map};
 ghost use Rattle.jv_data.specs.Fails.{AnswersAs};
-ghost use Rattle.jv_meaning.specs.Value.{array, items_of};
+ghost use Rattle.jv_data.specs.Value.{array, items_of};
 ghost use Rattle.jv_data.specs.View.{view};
 ghost use Rattle.jq_natives.specs.private.SortedItems.{goes_with, groups_in, pair_of};
 ghost use Rattle.jq_natives.specs.Sorting.{array_of, first_of_group, group_by_of, groups, unique_by_of};

@@ -2,7 +2,7 @@
 ghost use Rattle.std.specs.Prelude.{◌≡◌, ◌≤◌, ◌^◌, IfOk, OnErr, map};
 ghost use Rattle.std.specs.List.{range_with_len};
 ghost use Rattle.jv_data.specs.Held.{members_in};
-ghost use Rattle.jv_meaning.specs.Value.{keys, string};
+ghost use Rattle.jv_data.specs.Value.{keys, string};
 ghost use Rattle.jv_data.specs.View.{view};
 ghost use Rattle.jq_natives.specs.Answers.{count};
 

@@ -2,7 +2,7 @@
 
 ghost use Rattle.std.specs.Prelude.{◌≡◌, ℕ, List, Ok, Some, flat_map, map, true};
 ghost use Rattle.std.specs.List.{list_all};
-ghost use Rattle.jv_meaning.specs.Value.{string};
+ghost use Rattle.jv_data.specs.Value.{string};
 ghost use Rattle.jq_natives.specs.Answers.{counts};
 ghost use Rattle.jq_natives.specs.Natives.{native_named, table};
 ghost use Rattle.jq_natives.specs.Sorting.{Keyed, sorted, groups};

@@ -1,7 +1,7 @@
 // Lists of values.
 ghost use Rattle.std.specs.Prelude.{◌≡◌, IfOk, option_map, unwrap_or};
 ghost use Rattle.std.specs.Option.{option_copied};
-ghost use Rattle.jv_meaning.specs.Value.{null};
+ghost use Rattle.jv_data.specs.Value.{null};
 ghost use Rattle.jv_data.specs.View.{items_view, view};
 ghost use Rattle.jq_natives.specs.Lists.{lists_of};
 ghost use Rattle.jq_natives.specs.private.Lists.{lists_in};

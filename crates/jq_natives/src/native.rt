@@ -3,7 +3,7 @@ ghost use Rattle.std.specs.Prelude.{◌≡◌, ◌∷◌, [], map, Err};
 ghost use Rattle.std.specs.Str.{chars};
 ghost use Rattle.jv_data.specs.Fails.{AnswersAs, FailsAs};
 ghost use Rattle.jv_data.specs.View.{view};
-ghost use Rattle.jv_meaning.specs.Value.{Value, null};
+ghost use Rattle.jv_data.specs.Value.{Value, null};
 ghost use Rattle.jq_natives.specs.Natives.{answer_of_native, native_named};
 
 use crate::containment::contains;

@@ -1,7 +1,7 @@
 // Numbers and values read from strings.
 ghost use Rattle.std.specs.Prelude.{◌≡◌, ◌++◌, IfOk, Result, codes, option_map, string_bytes};
 ghost use Rattle.jv_data.specs.Fails.{AnswersAs, FailsAs};
-ghost use Rattle.jv_meaning.specs.Value.{Value, number};
+ghost use Rattle.jv_data.specs.Value.{Value, number};
 ghost use Rattle.jv_data.specs.View.{view};
 ghost use Rattle.jv_number.specs.Number.{number_value};
 ghost use Rattle.jv_text.specs.FaultWords.{fault_words};

@@ -2,7 +2,7 @@
 ghost use Rattle.std.specs.Prelude.{◌≡◌, IfOk, map, nat_eq};
 ghost use Rattle.std.specs.Str.{chars};
 ghost use Rattle.jv_data.specs.Fails.{AnswersAs};
-ghost use Rattle.jv_meaning.specs.Value.{values_of};
+ghost use Rattle.jv_data.specs.Value.{values_of};
 ghost use Rattle.jv_data.specs.View.{items_view, view};
 ghost use Rattle.jq_natives.specs.Answers.{count, counts, is_same};
 ghost use Rattle.jq_natives.specs.Searching.{first_item, index_native_of, indices_of, last_item, places_of, rindex_native_of, sought};

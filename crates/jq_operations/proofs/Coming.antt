@@ -1,8 +1,8 @@
 -- A state whose frames and fork points changed represents the machine's state.
 use Rattle.std.proofs.Common.{◌≡◌, List, sym, ap, subst, ◌∙◌, Result, Ok, Err, IfOk}
-use Rattle.jv_meaning.specs.Value.{Value}
+use Rattle.jv_data.specs.Value.{Value}
 use Rattle.jq_meaning.specs.Runs.{Run}
-use Rattle.jq_machine.specs.State as machine
+use Rattle.jq_meaning.specs.machine.State as machine
 use Rattle.jq_state.specs.Environments.{count_of, envs_of}
 use Rattle.jq_state.specs.Nexts.{next_in, NextFits, ComesTo, ComesWith}
 use Rattle.jq_state.specs.Views.{envs_in, frames_in, forks_in}

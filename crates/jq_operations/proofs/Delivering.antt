@@ -6,8 +6,8 @@ use Rattle.jv_data.specs.View.{view}
 use Rattle.jv_data.specs.declared.values.Val.{Val}
 use Rattle.jq_meaning.specs.Builtins.{plain_items, step_from, steps_between, numbers_up_to}
 use Rattle.jq_meaning.specs.Runs.{Item, plain, Done, Run, before, none}
-use Rattle.jq_machine.specs.State.{Frame, ForkPoint, give, remaining, fork, state}
-use Rattle.jq_machine.specs.Operations.{deliver, deliver_items}
+use Rattle.jq_meaning.specs.machine.State.{Frame, ForkPoint, give, remaining, fork, state}
+use Rattle.jq_meaning.specs.machine.Operations.{deliver, deliver_items}
 use Rattle.jq_state.specs.Forks.{run_after}
 use Rattle.jq_state.specs.Inputs.{fault_ending}
 

@@ -1,6 +1,6 @@
 -- The text of a value in a named format.
 use Rattle.std.proofs.Common.{◌≡◌, ℕ, List, Some, None, Err, ap}
-use Rattle.jv_meaning.specs.Value.{Value, null}
+use Rattle.jv_data.specs.Value.{Value, null}
 use Rattle.jv_text.specs.Formats.{format_named, text_in}
 use Rattle.jv_text.specs.declared.formats.names.Format.{Format}
 use Rattle.jq_meaning.specs.Continuations.{format_of, text_by}

@@ -2,7 +2,7 @@
 use Rattle.std.proofs.Common.{◌≡◌, ◌∙◌, List, [], ◌∷◌, ◌++◌, Bool, false, Option, Some, None, is_some, Result, Ok, Err, option_map, map, refl, sym, ap, subst}
 use Rattle.std.specs.Prelude.{zip}
 use Rattle.jv_data.specs.Fails.{FailsAs}
-use Rattle.jv_meaning.specs.Value.{Value}
+use Rattle.jv_data.specs.Value.{Value}
 use Rattle.jv_data.specs.View.{view}
 use Rattle.jv_data.specs.declared.failures.Fail.{Fail}
 use Rattle.jv_data.specs.declared.failures.Fail.TheVariants.{Raised}

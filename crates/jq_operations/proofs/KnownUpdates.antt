@@ -1,14 +1,14 @@
 -- The prelude's `_modify` in the environments of a program.
 use Rattle.std.proofs.Common.{◌≡◌, ℕ, zero, suc, ◌+◌, ◌-◌, ◌<◌, ◌≤◌, Some, length, sym, subst, arith}
-use Rattle.jv_meaning.specs.Value.{Value}
-use Rattle.jq_bindings.specs.Programs.{program_env}
+use Rattle.jv_data.specs.Value.{Value}
+use Rattle.jq_meaning.specs.Programs.{program_env}
 use Rattle.jq_meaning.specs.Runs.{Run}
 use Rattle.jq_state.specs.Environments.{envs_of, program_of}
 use Rattle.jq_state.specs.Modify.{KnowsModify}
 use Rattle.jq_state.specs.Nodes.{env_at}
 use Rattle.jq_state.specs.declared.environments.Nodes.{Nodes}
-use Rattle.jq_update_laws.specs.Known.{HasModify, HasModifyOf}
-use Rattle.jq_update_laws.specs.laws.Updates.{ModifyStays}
+use Rattle.jq_meaning.specs.updates.Known.{HasModify, HasModifyOf}
+use Rattle.jq_meaning.specs.laws.Updates.{ModifyStays}
 use Rattle.jq_operations.specs.private.Program.{ProgramIsAList}
 use Rattle.jq_operations.proofs.Programs.{Comes, there}
 

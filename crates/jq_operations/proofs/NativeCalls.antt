@@ -1,9 +1,9 @@
 -- Natives that keep no paths, and `getpath`, which does.
 use Rattle.std.proofs.Common.{◌≡◌, ◌≢◌, ◌∙◌, List, [], ◌∷◌, Option, Some, None, Ok, Err, refl, sym, ap}
-use Rattle.jv_meaning.specs.Value.{Value}
+use Rattle.jv_data.specs.Value.{Value}
 use Rattle.jq_meaning.specs.Builtins.{plain_native, path_native, at_path}
 use Rattle.jq_meaning.specs.Runs.{Item, value_in, answered, one, fail}
-use Rattle.jq_machine.specs.Operations.{native_of}
+use Rattle.jq_meaning.specs.machine.Operations.{native_of}
 use Rattle.jq_natives.specs.Natives.{answer_of_native}
 use Rattle.jq_natives.specs.declared.native.Native.{Native}
 use Rattle.jq_natives.specs.declared.native.Native.TheVariants.{GetPath}

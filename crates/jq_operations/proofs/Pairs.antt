@@ -3,7 +3,7 @@ use Rattle.std.proofs.Common.{◌≡◌, ◌∙◌, suc, List, [], ◌∷◌, �
 use Rattle.std.specs.Prelude.{zip}
 use Rattle.std.proofs.lemmas.List.{length-map, map-append, reverse-append}
 use Rattle.std.proofs.lemmas.List.FromFn.{length-map-range_with_len}
-use Rattle.jv_meaning.specs.Value.{Value, null, boolean, number, string, array, object, Members, no_members, member, keys, entries_of, values_of}
+use Rattle.jv_data.specs.Value.{Value, null, boolean, number, string, array, object, Members, no_members, member, keys, entries_of, values_of}
 use Rattle.jv_data.specs.View.{view}
 use Rattle.jv_data.specs.declared.values.Val.{Val}
 use Rattle.jv_value.specs.Parts.{parts_of}

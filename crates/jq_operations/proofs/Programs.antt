@@ -3,10 +3,10 @@ use Rattle.std.proofs.Common.{◌≡◌, ◌∙◌, ℕ, zero, suc, ◌+◌, ◌
 use Rattle.std.specs.Prelude.{slice_get}
 use Rattle.std.specs.declared.alloc.Global.{Global}
 use Rattle.std.proofs.lemmas.Bool.{cases_order}
-use Rattle.jv_meaning.specs.Value.{Value}
+use Rattle.jv_data.specs.Value.{Value}
 use Rattle.jq_tree.specs.Tree.{Name, Tree}
-use Rattle.jv_meaning.specs.Value.{null}
-use Rattle.jv_meaning.specs.Text.{text_of}
+use Rattle.jv_data.specs.Value.{null}
+use Rattle.jv_data.specs.Text.{text_of}
 use Rattle.jv_data.specs.View.{view}
 use Rattle.jq_ast.specs.Named.{named}
 use Rattle.jv_data.specs.declared.values.Val.{Val}
@@ -15,8 +15,8 @@ use Rattle.jq_ast.specs.declared.tree.Tree as ast
 use Rattle.jq_meaning.specs.Env.{Env, outermost, bound, find_callee, find_level, find_value, find_in_prelude, found_function, found_closure, no_callee, callee_or, is_named}
 use Rattle.jq_meaning.specs.Env as env
 use Rattle.jq_meaning.specs.Runs.{Run}
-use Rattle.jq_bindings.specs.Programs.{program_env, with_bindings}
-use Rattle.jq_bindings.specs.laws.Programs.{ProgramsGrow}
+use Rattle.jq_meaning.specs.Programs.{program_env, with_bindings}
+use Rattle.jq_meaning.specs.laws.Programs.{ProgramsGrow}
 use Rattle.jq_state.specs.Environments.{envs_of, program_of}
 use Rattle.jq_state.specs.Listed.{is_called, is_variable, NoneFrom, IsFirstOf, IsLastOf}
 use Rattle.jq_state.specs.Nodes.{env_at, program_binding}

@@ -1,8 +1,8 @@
 -- The members of a slice's key.
 use Rattle.std.proofs.Common.{◌≡◌, ◌∙◌, ℕ, List, codes, refl, ap}
 use Rattle.std.specs.Str.{chars}
-use Rattle.jv_meaning.specs.Members.{put}
-use Rattle.jv_meaning.specs.Value.{Value, object, Members, no_members}
+use Rattle.jv_data.specs.Members.{put}
+use Rattle.jv_data.specs.Value.{Value, object, Members, no_members}
 use Rattle.jv_value.specs.Index.{slice_key}
 
 both_put : (v w : Value) → object (put (chars (codes "end")) w (put (chars (codes "start")) v no_members)) ≡ slice_key v w

@@ -1,15 +1,15 @@
 -- The state after a transition.
 use Rattle.std.proofs.Common.{◌≡◌, ◌∙◌, ◌<◌, ℕ, List, [], ◌∷◌, map, length, get_or, ap, sym, subst, arith}
-use Rattle.jv_meaning.specs.Value.{Value}
+use Rattle.jv_data.specs.Value.{Value}
 use Rattle.jq_ast.proofs.shared.Counts.{count_trees}
 use Rattle.jq_ast.specs.Named.{named}
 use Rattle.jq_ast.specs.declared.tree.Tree.{Tree}
 use Rattle.jq_tree.specs.Tree.{Name, trees_of, trees_count}
 use Rattle.jq_meaning.specs.Env.{find_callee, find_in_prelude}
 use Rattle.jq_meaning.specs.Runs.{Run, located}
-use Rattle.jq_machine.specs.State.{state, evaluate, operation, path_value}
-use Rattle.jq_machine.specs.State as machine
-use Rattle.jq_machine.specs.Evaluating.{enter_paths}
+use Rattle.jq_meaning.specs.machine.State.{state, evaluate, operation, path_value}
+use Rattle.jq_meaning.specs.machine.State as machine
+use Rattle.jq_meaning.specs.machine.Evaluating.{enter_paths}
 use Rattle.jq_state.specs.Environments.{envs_of}
 use Rattle.jq_state.specs.Nodes.{env_at}
 use Rattle.jq_state.specs.declared.environments.Nodes.{Nodes}

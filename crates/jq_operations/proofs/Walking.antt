@@ -2,13 +2,13 @@
 use Rattle.std.proofs.Common.{◌≡◌, ℕ, List, [], ◌∷◌, ◌++◌, map, reverse, refl, sym, ap, ◌∙◌, String}
 use Rattle.std.proofs.lemmas.List.{reverse-append, append_assoc, append-nil}
 use Rattle.std.specs.declared.alloc.Global.{Global}
-use Rattle.jv_meaning.specs.Text.{text_of}
+use Rattle.jv_data.specs.Text.{text_of}
 use Rattle.jq_ast.specs.declared.tree.Piece.{Piece}
 use Rattle.jq_ast.specs.declared.tree.Tree.{Tree}
 use Rattle.jq_tree.specs.Tree as tree
 use Rattle.jq_meaning.specs.Runs.{Item}
-use Rattle.jq_machine.specs.State.{Scope, Hole, Frame, ForkPoint}
-use Rattle.jq_machine.specs.Evaluating.{enter_pieces, next_hole}
+use Rattle.jq_meaning.specs.machine.State.{Scope, Hole, Frame, ForkPoint}
+use Rattle.jq_meaning.specs.machine.Evaluating.{enter_pieces, next_hole}
 use Rattle.jq_state.specs.Steps.{hole_of}
 use Rattle.jq_operations.specs.Pieces.{named_pieces}
 

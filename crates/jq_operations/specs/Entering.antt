@@ -1,6 +1,6 @@
 -- Definitions, calls, and filters whose outputs are refused.
 use Rattle.std.specs.Prelude.{List, ◌∷◌, map}
-use Rattle.jv_meaning.specs.Text.{text_of}
+use Rattle.jv_data.specs.Text.{text_of}
 use Rattle.jq_ast.specs.Named.{name_of, named}
 use Rattle.jq_ast.specs.declared.names.Name.{Name}
 use Rattle.jq_ast.specs.declared.tree.Function.{Function}
@@ -8,7 +8,7 @@ use Rattle.jq_ast.specs.declared.tree.Tree.{Tree}
 use Rattle.jq_tree.specs.Tree.{trees_of}
 use Rattle.jq_tree.specs.Tree as form
 use Rattle.jq_meaning.specs.Runs.{Item}
-use Rattle.jq_machine.specs.State.{state, evaluate, operation, refuse}
+use Rattle.jq_meaning.specs.machine.State.{state, evaluate, operation, refuse}
 use Rattle.jq_state.specs.Nexts.{Transition}
 
 -- a definition before a filter

@@ -3,7 +3,7 @@ ghost use Rattle.std.specs.Prelude.{◌<◌, IfOk, map};
 ghost use Rattle.jv_data.specs.Held.{values_in};
 ghost use Rattle.jq_ast.specs.Named.{named};
 ghost use Rattle.jq_tree.specs.Tree.{trees_of};
-ghost use Rattle.jq_machine.specs.Evaluating as machine;
+ghost use Rattle.jq_meaning.specs.machine.Evaluating as machine;
 ghost use Rattle.jq_state.specs.Environments.{count_of};
 ghost use Rattle.jq_state.specs.Items.{item_of};
 ghost use Rattle.jq_state.specs.Nexts.{ComesTo, transition};

@@ -1,8 +1,8 @@
 // The bodies of functions and of filters that were passed as arguments.
 ghost use Rattle.std.specs.Prelude.{◌≡◌, ◌<◌, ℕ, IfOk};
 ghost use Rattle.jq_ast.specs.Named.{named};
-ghost use Rattle.jq_machine.specs.Evaluating as machine;
-ghost use Rattle.jq_machine.specs.State.{state};
+ghost use Rattle.jq_meaning.specs.machine.Evaluating as machine;
+ghost use Rattle.jq_meaning.specs.machine.State.{state};
 ghost use Rattle.jq_state.specs.Environments.{count_of};
 ghost use Rattle.jq_state.specs.Items.{item_of};
 ghost use Rattle.jq_state.specs.Nexts.{ComesTo, NextFits};

@@ -2,7 +2,7 @@
 ghost use Rattle.std.specs.Prelude.{◌≡◌, ◌++◌, IfOk, map, option_map};
 ghost use Rattle.jv_data.specs.Held.{values_in};
 ghost use Rattle.jv_data.specs.View.{view};
-ghost use Rattle.jq_machine.specs.Operations.{applied, native_of};
+ghost use Rattle.jq_meaning.specs.machine.Operations.{applied, native_of};
 ghost use Rattle.jq_meaning.specs.Builtins.{path_native, values_in_array};
 ghost use Rattle.jq_natives.specs.declared.native.Native.TheVariants.{GetPath};
 ghost use Rattle.jq_state.specs.Items.{item_of, keys_of};

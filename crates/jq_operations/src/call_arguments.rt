@@ -1,6 +1,6 @@
 // The arguments of a call.
 ghost use Rattle.std.specs.Prelude.{◌≡◌, ◌<◌, IfOk, OnOk};
-ghost use Rattle.jv_meaning.specs.Value.{Value};
+ghost use Rattle.jv_data.specs.Value.{Value};
 ghost use Rattle.jq_meaning.specs.Runs.{Run};
 ghost use Rattle.jq_state.specs.Environments.{count_of};
 ghost use Rattle.jq_operations.specs.private.Bodies.{BindsArguments};

@@ -3,7 +3,7 @@ ghost use Rattle.std.specs.Prelude.{◌≡◌, ◌<◌, IfOk, map};
 ghost use Rattle.jq_ast.specs.Named.{name_of, named};
 ghost use Rattle.jq_tree.specs.Tree.{trees_of};
 ghost use Rattle.jq_tree.specs.Tree as form;
-ghost use Rattle.jq_machine.specs.Evaluating.{enter};
+ghost use Rattle.jq_meaning.specs.machine.Evaluating.{enter};
 ghost use Rattle.jq_state.specs.Environments.{count_of};
 ghost use Rattle.jq_state.specs.Inputs.{inputs_of};
 ghost use Rattle.jq_state.specs.Items.{item_of};

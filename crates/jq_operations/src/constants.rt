@@ -1,8 +1,8 @@
 // Values that the language itself makes: constants, keys and errors.
 ghost use Rattle.std.specs.Prelude.{◌≡◌, IfOk, codes};
 ghost use Rattle.jv_data.specs.Shared.{text_in};
-ghost use Rattle.jv_meaning.specs.Value.{string};
-ghost use Rattle.jv_meaning.specs.Text.{text_of};
+ghost use Rattle.jv_data.specs.Value.{string};
+ghost use Rattle.jv_data.specs.Text.{text_of};
 ghost use Rattle.jv_data.specs.View.{view};
 ghost use Rattle.jv_value.specs.Index as index;
 ghost use Rattle.jq_ast.specs.Leaves.{key_of, literal_of};

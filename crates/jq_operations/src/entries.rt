@@ -1,10 +1,10 @@
 // Objects that are made entry by entry.
 ghost use Rattle.std.specs.Prelude.{◌≡◌, ◌<◌, IfOk};
 ghost use Rattle.jv_data.specs.Held.{members_in};
-ghost use Rattle.jv_meaning.specs.Members.{put};
+ghost use Rattle.jv_data.specs.Members.{put};
 ghost use Rattle.jv_data.specs.Shared.{text_in};
 ghost use Rattle.jv_data.specs.View.{view};
-ghost use Rattle.jq_machine.specs.Evaluating as machine;
+ghost use Rattle.jq_meaning.specs.machine.Evaluating as machine;
 ghost use Rattle.jq_state.specs.Environments.{count_of};
 ghost use Rattle.jq_state.specs.Nexts.{ComesTo, transition};
 ghost use Rattle.jq_state.specs.Steps.{named_entries};

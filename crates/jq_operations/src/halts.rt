@@ -1,7 +1,7 @@
 // `halt` and `halt_error`.
 ghost use Rattle.std.specs.Prelude.{◌≡◌, ◌∷◌, ◌++◌, [], IfOk, map};
 ghost use Rattle.jv_data.specs.View.{view};
-ghost use Rattle.jv_meaning.specs.Value.{number};
+ghost use Rattle.jv_data.specs.Value.{number};
 ghost use Rattle.jv_text.specs.Printed.{compact, line_feed};
 ghost use Rattle.jq_meaning.specs.Builtins.{halt_bytes, halted_by, not_an_exit_code};
 ghost use Rattle.jq_meaning.specs.Runs.{Stopped, ended, halted};

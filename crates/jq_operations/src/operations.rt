@@ -1,7 +1,7 @@
 // Operations on an item.
 ghost use Rattle.std.specs.Prelude.{◌≡◌, IfOk};
 ghost use Rattle.jv_data.specs.View.{view};
-ghost use Rattle.jq_machine.specs.Operations.{result_of};
+ghost use Rattle.jq_meaning.specs.machine.Operations.{result_of};
 ghost use Rattle.jq_meaning.specs.Runs.{one, plain};
 ghost use Rattle.jq_state.specs.Items.{item_of};
 ghost use Rattle.jq_state.specs.Steps.{operation_of};

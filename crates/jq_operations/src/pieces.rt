@@ -2,7 +2,7 @@
 ghost use Rattle.std.specs.Prelude.{◌<◌, IfOk, map, reverse, []};
 ghost use Rattle.jv_data.specs.Shared.{text_in};
 ghost use Rattle.jq_ast.specs.Named.{name_of};
-ghost use Rattle.jq_machine.specs.Evaluating as machine;
+ghost use Rattle.jq_meaning.specs.machine.Evaluating as machine;
 ghost use Rattle.jq_state.specs.Environments.{count_of};
 ghost use Rattle.jq_state.specs.Items.{item_of};
 ghost use Rattle.jq_state.specs.Nexts.{ComesTo, transition};

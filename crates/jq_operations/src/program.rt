@@ -1,7 +1,7 @@
 // The program's own environments.
 ghost use Rattle.jq_operations.specs.private.Program.{ProgramIsAList, ProgramHasNoLabels};
 
-use jq_bindings::programs::programs_are_lists;
+use jq_meaning::bindings::programs::programs_are_lists;
 use jq_state::environments::Nodes;
 
 // Each binding of the program's list makes the next environment, and none of them is a label.

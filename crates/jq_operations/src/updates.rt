@@ -1,14 +1,14 @@
 // The prelude's `_modify`, which `f |= g` calls.
 ghost use Rattle.std.specs.Prelude.{◌<◌, ◌≤◌, IsTrue, length};
-ghost use Rattle.jv_meaning.specs.Value.{Value};
+ghost use Rattle.jv_data.specs.Value.{Value};
 ghost use Rattle.jq_meaning.specs.Runs.{Run};
 ghost use Rattle.jq_state.specs.Environments.{count_of, envs_of, program_of};
 ghost use Rattle.jq_state.specs.Nodes.{env_at};
-ghost use Rattle.jq_update_laws.specs.Known.{HasModify};
+ghost use Rattle.jq_meaning.specs.updates.Known.{HasModify};
 
 use crate::program::program_is_a_list;
+use jq_meaning::updates::the_preludes_update_stays;
 use jq_state::environments::Nodes;
-use jq_update_laws::laws::the_preludes_update_stays;
 
 /// Whether it is known of an environment that `f |= g` calls the prelude's `_modify` in it.
 pub fn has_modify(nodes: &Nodes<'_>, env: u32) -> bool

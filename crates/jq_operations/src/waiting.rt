@@ -1,7 +1,7 @@
 // Forms that wait for the output of one of their parts.
 ghost use Rattle.std.specs.Prelude.{◌∷◌, ◌<◌, IfOk};
 ghost use Rattle.jq_ast.specs.Named.{named};
-ghost use Rattle.jq_machine.specs.State as machine;
+ghost use Rattle.jq_meaning.specs.machine.State as machine;
 ghost use Rattle.jq_state.specs.Environments.{count_of};
 ghost use Rattle.jq_state.specs.Items.{item_of};
 ghost use Rattle.jq_state.specs.Nexts.{ComesTo, transition};

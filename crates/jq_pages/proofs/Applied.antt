@@ -3,7 +3,7 @@ use Rattle.std.proofs.Common.{◌≡◌, ℕ, ◌+◌, ◌-◌, ◌<◌, ◌≤�
 use Rattle.std.proofs.lemmas.Grind.{flat_map-append, take_at_read}
 use Rattle.std.proofs.Math.Seq.{take-add}
 use Rattle.std.specs.List.{replace_range}
-use Rattle.jv_meaning.specs.Value.{Value}
+use Rattle.jv_data.specs.Value.{Value}
 use Rattle.jv_data.specs.View.{view}
 use Rattle.jq_pages.specs.Pieces.{PieceView, piece_view}
 use Rattle.jq_pages.specs.Folds.{Fold, Rises, state_after}

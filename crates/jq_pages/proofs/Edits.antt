@@ -4,7 +4,7 @@ use Rattle.std.proofs.lemmas.Grind.{flat_map-append, take_at_read, take-set_at}
 use Rattle.std.proofs.lemmas.List.{drop-set-lt, map-append, take-map, drop-map, take-append-le, drop-append-le}
 use Rattle.std.proofs.Math.Seq.{take-append-add, drop-append-add, take-add, take-append_seam, drop-append_seam}
 use Rattle.std.specs.List.{replace_range}
-use Rattle.jv_meaning.specs.Value.{Value}
+use Rattle.jv_data.specs.Value.{Value}
 use Rattle.jv_data.specs.View.{view}
 use Rattle.jq_pages.specs.Pieces.{piece_view}
 use Rattle.jq_pages.specs.Folds.{Fold, state_after, pieces_after}

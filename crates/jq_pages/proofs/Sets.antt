@@ -5,8 +5,8 @@ use Rattle.std.proofs.Props.{props}
 use Rattle.std.specs.Bool.{Decides}
 use Rattle.std.specs.Ordering.{is_eq}
 use mathlib.Core.HLevel.{hedberg}
-use Rattle.jv_meaning.proofs.Order.{same_Decides}
-use Rattle.jv_meaning.specs.Value.{Value, compare}
+use Rattle.jv_data.proofs.shared.Order.{same_Decides}
+use Rattle.jv_data.specs.Value.{Value, compare}
 use Rattle.jq_pages.specs.Pieces.{PieceView}
 
 decided : {P : Type 0} (b : Bool) → Decides b P → Dec P

@@ -1,7 +1,7 @@
 -- What `Pages` represents: a fold over the inputs that are present.
 use Rattle.std.specs.Prelude.{ℕ, List, map}
 use Rattle.std.specs.List.{flat_map}
-use Rattle.jv_meaning.specs.Value.{Value}
+use Rattle.jv_data.specs.Value.{Value}
 use Rattle.jv_data.specs.View.{view}
 use Rattle.jq_pages.specs.Folds.{Fold, Folded}
 use Rattle.jq_pages.specs.Pieces.{PieceView, piece_view}

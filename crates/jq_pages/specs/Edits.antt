@@ -1,7 +1,7 @@
 -- Edits of a list of inputs, which are numbered from 0.
 use Rattle.std.specs.Prelude.{ℕ, List, length, Bool, if◌then◌else◌, nat_lt, slice_set, Result, Ok, Err}
 use Rattle.std.specs.List as list
-use Rattle.jv_meaning.specs.Value.{Value}
+use Rattle.jv_data.specs.Value.{Value}
 use Rattle.jq_pages.specs.Folds.{Folded}
 
 pub data Edit : Type 0 where

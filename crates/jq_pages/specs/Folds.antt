@@ -1,7 +1,7 @@
 -- A fold over a list of inputs, which writes a piece of output at its start, for each input, and at its end.
 use Rattle.std.specs.Prelude.{ℕ, ◌+◌, ◌≤◌, Bool, List, [], ◌∷◌, ◌++◌, take}
 use Rattle.std.specs.List.{flat_map}
-use Rattle.jv_meaning.specs.Value.{Value}
+use Rattle.jv_data.specs.Value.{Value}
 use Rattle.jq_pages.specs.Pieces.{PieceView}
 
 -- Between the inputs the fold is in a state: `begin` gives the first one, `step` the next one. If `plain` is true, an edit runs

@@ -1,7 +1,7 @@
 -- A move: the input of number `k` is removed and inserted at place `l` of the shorter list.
 use Rattle.std.specs.Prelude.{◌≡◌, ℕ, ◌+◌, ◌-◌, List, Option, Some, None, Result, Ok, Err, IsOk, MatchResult, IsTrue, slice_get}
 use Rattle.std.specs.List as list
-use Rattle.jv_meaning.specs.Value.{Value}
+use Rattle.jv_data.specs.Value.{Value}
 use Rattle.jq_pages.specs.Changes.{IsChange, IsMeeting}
 use Rattle.jq_pages.specs.Edits.{Reason, insert, remove, no_place, edited, after, with_inputs}
 use Rattle.jq_pages.specs.Folds.{Folded, Rises, all}

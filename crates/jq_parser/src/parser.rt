@@ -2,7 +2,7 @@
 ghost use Rattle.std.specs.Prelude.{◌≡◌, ◌∷◌, OnOk, IfErr, MatchOption, MatchResult, true, false, if◌then◌else◌};
 ghost use Rattle.jq_lexer.specs.Views.{symbol_of, keyword_of, token_of};
 ghost use Rattle.jq_tree.specs.Token as token;
-ghost use Rattle.jv_meaning.specs.Text.{text_of};
+ghost use Rattle.jv_data.specs.Text.{text_of};
 ghost use Rattle.jq_parser.specs.laws.Combinators.{first, tail, is_symbol, symbol_number};
 ghost use Rattle.jq_parser.specs.laws.Forms.{begins_post, is_as};
 ghost use Rattle.jq_parser.specs.private.Parsing.{ahead, waiting, frame_of, is_keyword, keyword_number, is_piece, is_variable, is_name, is_field, is_interpolation, ended, level_first};

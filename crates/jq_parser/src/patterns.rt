@@ -1,6 +1,6 @@
 // Patterns.
 ghost use Rattle.std.specs.Prelude.{◌∷◌, ◌++◌, [], map};
-ghost use Rattle.jv_meaning.specs.Text.{text_of};
+ghost use Rattle.jv_data.specs.Text.{text_of};
 ghost use Rattle.jq_tree.specs.Token as token;
 ghost use Rattle.jq_ast.specs.Named.{named_as_pattern, named_as_part};
 ghost use Rattle.jq_lexer.specs.Views.{symbol_of, keyword_of};

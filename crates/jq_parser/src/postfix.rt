@@ -1,6 +1,6 @@
 // Terms, and the steps after them.
 ghost use Rattle.std.specs.Prelude.{◌∷◌};
-ghost use Rattle.jv_meaning.specs.Text.{text_of};
+ghost use Rattle.jv_data.specs.Text.{text_of};
 ghost use Rattle.jq_tree.specs.Token as token;
 ghost use Rattle.jq_lexer.specs.Views.{symbol_of, keyword_of};
 ghost use Rattle.jq_parser.specs.laws.Machine as m;

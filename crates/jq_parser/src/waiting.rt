@@ -3,7 +3,7 @@
 // Where one token must follow, most turns build their tree or frame before they look at it, so that few values are still
 // to be dropped where they stop.
 ghost use Rattle.std.specs.Prelude.{◌≡◌, ◌∷◌, ◌++◌, [], map, None, Err, MatchResult};
-ghost use Rattle.jv_meaning.specs.Text.{text_of};
+ghost use Rattle.jv_data.specs.Text.{text_of};
 ghost use Rattle.jq_ast.specs.Named.{named, named_as_part, named_entry};
 ghost use Rattle.jq_lexer.specs.Views.{symbol_of, token_of};
 ghost use Rattle.jq_parser.specs.laws.Machine as m;

@@ -1,6 +1,6 @@
 -- The same as in the code, where a box is opened before its tree is resolved.
 use Rattle.std.proofs.Common.{◌≡◌, ◌-◌, ◌∷◌, length, drop, OnOk, Result, Ok, Err, String, Global, Box, Bool, sym, subst}
-use Rattle.jv_meaning.specs.Text.{text_of}
+use Rattle.jv_data.specs.Text.{text_of}
 use Rattle.jq_tree.specs.Names.{Scope, to_label}
 use Rattle.jq_ast.specs.declared.leaves.Key.{Key}
 use Rattle.jq_ast.specs.declared.tree.Entry.{Entry}

@@ -3,7 +3,7 @@ use Rattle.std.proofs.Common.{◌≡◌, ◌∙◌, ◌+◌, ◌-◌, ◌<◌, �
 use Rattle.std.specs.Prelude.{◌&&◌, ◌||◌}
 use Rattle.std.proofs.lemmas.List.{append_assoc, length-map, length-reverse, length-drop, map-append, reverse-append, take-append-drop, take-map, take_more}
 use Rattle.std.proofs.Math.Seq.{drop-cons}
-use Rattle.jv_meaning.proofs.shared.Texts.{bytes_eq-sym, same_characters}
+use Rattle.jv_data.proofs.shared.Texts.{bytes_eq-sym, same_characters}
 use Rattle.jq_tree.specs.BoundTree.{bound_at, in_language, nowhere}
 use Rattle.jq_tree.specs.Binders.{binder, prelude_binder, from_inside}
 use Rattle.jq_tree.specs.Names.{Reference, to_format, same_reference, Scope, is_bound, language}

@@ -1,7 +1,7 @@
 -- From the parts of a tree to the whole, for forms with names and binders.
 use Rattle.std.proofs.Common.{◌≡◌, ◌∙◌, ◌+◌, ◌-◌, suc, List, [], ◌∷◌, length, map, drop, Vec, String, Global, Box, ap, sym, refl, subst}
 use Rattle.std.proofs.lemmas.List.{length-map}
-use Rattle.jv_meaning.specs.Text.{text_of}
+use Rattle.jv_data.specs.Text.{text_of}
 use Rattle.jq_tree.specs.Tree as tree
 use Rattle.jq_tree.specs.BoundTree as form
 use Rattle.jq_tree.specs.Binders.{binder, prelude_binder, bound_in, trees_in, pattern_in, part_in}

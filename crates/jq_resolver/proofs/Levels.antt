@@ -1,7 +1,7 @@
 -- The bound tree of each form, by its parts.
 use Rattle.std.proofs.Common.{◌≡◌, ◌∙◌, ◌+◌, ℕ, suc, Bool, List, [], ◌∷◌, length, map, Vec, String, Global, Box, ap, sym, refl}
 use Rattle.std.proofs.lemmas.List.{length-map}
-use Rattle.jv_meaning.specs.Text.{text_of}
+use Rattle.jv_data.specs.Text.{text_of}
 use Rattle.jq_tree.specs.BoundTree as form
 use Rattle.jq_ast.specs.Leaves.{key_of, operator_of}
 use Rattle.jq_ast.specs.Named.{name_of}

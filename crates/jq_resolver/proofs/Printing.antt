@@ -4,7 +4,7 @@ use Rattle.std.specs.Fmt.{decimal}
 use Rattle.std.proofs.lemmas.Fmt.{IsAscii-decimal}
 use Rattle.std.proofs.lemmas.Str.{IsUtf8-string_bytes, encodes-IsAscii, encodes-append, encodes-chars}
 use lib.Utf8.{encode, encodes}
-use Rattle.jv_meaning.specs.Text.{text_of}
+use Rattle.jv_data.specs.Text.{text_of}
 
 text_bytes : (x : String Global) → encodes (text_of x) ≡ string_bytes x
 text_bytes x = encodes-chars (string_bytes x) (IsUtf8-string_bytes x)

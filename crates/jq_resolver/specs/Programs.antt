@@ -1,7 +1,7 @@
 -- A program: its functions in order, each of which sees those before it and itself, and a tree that sees them all.
 use Rattle.std.specs.Prelude.{ℕ, suc, ◌+◌, List, [], ◌∷◌, length, map, String}
 use Rattle.std.specs.declared.alloc.Global.{Global}
-use Rattle.jv_meaning.specs.Text.{text_of}
+use Rattle.jv_data.specs.Text.{text_of}
 use Rattle.jv_data.specs.declared.values.Val.{Val}
 use Rattle.jq_tree.specs.Tree as tree
 use Rattle.jq_tree.specs.BoundTree as form

@@ -1,6 +1,6 @@
 -- The first name of a program that nothing binds.
 use Rattle.std.specs.Prelude.{◌≡◌, List, [], ◌∷◌, Option, Some, None}
-use Rattle.jv_meaning.specs.Text.{text_of}
+use Rattle.jv_data.specs.Text.{text_of}
 use Rattle.jq_tree.specs.Names.{Reference, to_function, to_variable, to_label, to_format}
 use Rattle.jq_resolver.specs.declared.unbound.Undefined.{Undefined}
 use Rattle.jq_resolver.specs.declared.unbound.Undefined.TheVariants as undefined

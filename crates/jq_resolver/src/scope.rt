@@ -1,6 +1,6 @@
 // What is bound around a tree.
 ghost use Rattle.std.specs.Prelude.{◌≡◌, ◌∷◌, [], ◌-◌, ◌<◌, suc, false, IfOk, MatchOption, OnOk, drop, length, map};
-ghost use Rattle.jv_meaning.specs.Text.{text_of};
+ghost use Rattle.jv_data.specs.Text.{text_of};
 ghost use Rattle.jq_tree.specs.BoundTree.{bound_at, nowhere};
 ghost use Rattle.jq_tree.specs.Binders.{binder, prelude_binder};
 ghost use Rattle.jq_tree.specs.Names.{Reference, is_bound, with_parameters};

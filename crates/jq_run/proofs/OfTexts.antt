@@ -3,7 +3,7 @@ use Rattle.std.proofs.Common.{◌≡◌, inl, ℕ, List, true, false, Result, If
 use Rattle.jq_ast.specs.declared.tree.Tree.{Tree}
 use Rattle.jq_state.specs.Listed.{items_in}
 use Rattle.jq_state.specs.declared.programs.ProgramBindings.{ProgramBindings}
-use Rattle.jv_meaning.proofs.shared.Results.{if_err_map, if_ok_map}
+use Rattle.jv_data.proofs.shared.Results.{if_err_map, if_ok_map}
 use Rattle.jq_devices.specs.declared.faults.StreamFault.{StreamFault}
 use Rattle.jq_filters.specs.Accepted.{Accepts}
 use Rattle.jq_filters.specs.Filters.{IsFilterOf, filter_job, filter_mode}

@@ -8,7 +8,7 @@ use Rattle.std.specs.Char.{digit_value}
 use Rattle.std.specs.Fmt.{decimal}
 use Rattle.std.specs.List.{replace_range}
 use Rattle.std.specs.Str.Parse.{AllDigits, digits_value}
-use Rattle.jv_meaning.specs.Value.{Value}
+use Rattle.jv_data.specs.Value.{Value}
 use Rattle.jv_text.specs.declared.faults.Fault.{Fault}
 use Rattle.jq_pages.specs.Edits.{Edit, Reason, full, no_place}
 use Rattle.jq_pages.specs.Edits as edits

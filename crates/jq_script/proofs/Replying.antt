@@ -1,7 +1,7 @@
 -- The reply to a request.
 use Rattle.std.proofs.Common.{◌≡◌, ◌++◌, ℕ, Bool, true, false, List, Result, Ok, Err, IsOk, OnOk, OnErr, IfOk, IfErr, refl, sym, ap, ◌∙◌, subst, inl, inr}
 use Rattle.std.specs.Str.{IsUtf8, chars}
-use Rattle.jv_meaning.specs.Value.{Value}
+use Rattle.jv_data.specs.Value.{Value}
 use Rattle.jv_data.specs.declared.failures.NoMemory.{NoMemory}
 use Rattle.jv_text.specs.Reading.{FaultIs}
 use Rattle.jv_text.specs.declared.faults.Fault.{Fault}

@@ -1,7 +1,7 @@
 -- How often a request starts the filter.
 use Rattle.std.proofs.Common.{◌≡◌, ◌+◌, ℕ, List, Result, Ok, Err, refl, sym, ap, subst, arith}
 use Rattle.std.specs.Prelude.{MatchResult}
-use Rattle.jv_meaning.specs.Value.{Value}
+use Rattle.jv_data.specs.Value.{Value}
 use Rattle.jv_text.specs.declared.faults.Fault.{Fault}
 use Rattle.jq_pages.specs.Edits.{Edit, Reason}
 use Rattle.jq_pages.specs.Edits as edits

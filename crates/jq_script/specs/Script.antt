@@ -2,7 +2,7 @@
 use Rattle.std.specs.Prelude.{◌≡◌, ◌⊎◌, ℕ, List, [], ◌∷◌, ◌++◌, length, Bool, true, false, Option, Some, None, MatchOption, MatchResult, Result, Ok, Err, IsOk}
 use Rattle.std.specs.Str.{IsUtf8, chars}
 use Rattle.jv_cut.specs.Cut.{cut_from}
-use Rattle.jv_meaning.specs.Value.{Value, null}
+use Rattle.jv_data.specs.Value.{Value, null}
 use Rattle.jv_text.specs.Reading.{text_of_cut}
 use Rattle.jv_text.specs.declared.faults.Fault.{Fault}
 use Rattle.jq_pages.specs.Edits.{Edit, Reason, no_place, full}

@@ -2,7 +2,7 @@
 use Rattle.std.proofs.Common.{◌≡◌, List, [], ◌∷◌, ◌++◌, Bool, true, false, IsFalse, map, take, drop, length, Ok, refl, sym, ap, ap₂, ◌∙◌, subst, append-nil}
 use Rattle.std.proofs.lemmas.List.{take-map, drop-map}
 use Rattle.std.specs.List.{flat_map}
-use Rattle.jv_meaning.specs.Value.{Value}
+use Rattle.jv_data.specs.Value.{Value}
 use Rattle.jq_fold_steps.specs.Filters.{filter_fold}
 use Rattle.jq_fold_steps.specs.laws.Outcomes.{IsOutcome}
 use Rattle.jq_inputs.specs.Plans.{view_of}

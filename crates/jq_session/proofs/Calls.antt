@@ -1,6 +1,6 @@
 -- Calls of a session, one after the other.
 use Rattle.std.proofs.Common.{◌≡◌, ℕ, List, [], ◌∷◌, Some, None, Result, Ok, Err, refl, sym, ap, ◌∙◌, subst, arith}
-use Rattle.jv_meaning.specs.Value.{Value}
+use Rattle.jv_data.specs.Value.{Value}
 use Rattle.jq_filters.specs.Present.{values_outcome}
 use Rattle.jq_pages.specs.Edits.{Reason, edited}
 use Rattle.jq_pages.specs.Folds.{Rises}

@@ -3,7 +3,7 @@ use Rattle.std.proofs.Common.{◌≡◌, ℕ, zero, suc, ◌<◌, ◌≤◌, nat
 use Rattle.std.proofs.lemmas.Bool.{ltb-true, ltb-false}
 use Rattle.std.proofs.lemmas.List.{set_split}
 use Rattle.std.specs.List as list
-use Rattle.jv_meaning.specs.Value.{Value}
+use Rattle.jv_data.specs.Value.{Value}
 use Rattle.jq_pages.specs.Edits.{Edit, insert, replace, remove, added, place, edited, at_place, most_inputs, no_place, full}
 
 abbrev pub put_in : Edit → List Value

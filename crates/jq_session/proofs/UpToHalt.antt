@@ -4,7 +4,7 @@ use Rattle.std.specs.List.{flat_map}
 use Rattle.std.specs.Option.{option_or}
 use Rattle.std.specs.Prelude.{unwrap_or}
 use Rattle.std.proofs.lemmas.Bool.{lt-ltb}
-use Rattle.jv_meaning.specs.Value.{Value}
+use Rattle.jv_data.specs.Value.{Value}
 use Rattle.jq_fold_steps.specs.Filters.{filter_fold}
 use Rattle.jq_fold_steps.specs.laws.Outcomes.{IsOutcome}
 use Rattle.jq_inputs.specs.Plans.{view_of}

@@ -1,6 +1,6 @@
 -- A filter on each input that may halt, as a fold: after the first input whose run halts no input is run.
 use Rattle.std.specs.Prelude.{Bool, true, false, is_some}
-use Rattle.jv_meaning.specs.Value.{Value}
+use Rattle.jv_data.specs.Value.{Value}
 use Rattle.jq_meaning.specs.Runs.{none}
 use Rattle.jq_pages.specs.Folds.{Fold}
 use Rattle.jq_pages.specs.Pieces.{PieceView}

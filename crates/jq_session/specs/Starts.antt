@@ -1,6 +1,6 @@
 -- How often a session may start its filter.
 use Rattle.std.specs.Prelude.{◌≡◌, ℕ, List, ◌+◌, ◌-◌, length, MatchResult}
-use Rattle.jv_meaning.specs.Value.{Value}
+use Rattle.jv_data.specs.Value.{Value}
 use Rattle.jq_pages.specs.Changes.{IsMeeting}
 use Rattle.jq_pages.specs.Contents.{folded_in}
 use Rattle.jq_pages.specs.Edits.{Edit, added, insert, place, remove}

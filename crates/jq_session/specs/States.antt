@@ -1,6 +1,6 @@
 -- The state that a session represents: how its filter runs, how an edit is followed, and the present inputs.
 use Rattle.std.specs.Prelude.{◌≡◌, ℕ, Bool, true, false, List, [], Option, Some, Result, Ok, Err, slice_get}
-use Rattle.jv_meaning.specs.Value.{Value}
+use Rattle.jv_data.specs.Value.{Value}
 use Rattle.jq_folds.specs.Pieces.{FoldState}
 use Rattle.jq_fold_steps.specs.Filters.{filter_fold, compiled_fold}
 use Rattle.jq_inputs.specs.Halting.{CallsNoHalt}

@@ -1,7 +1,7 @@
 // The smallest parts of these trees: names, variables and the pattern `$v`.
 ghost use Rattle.std.specs.Prelude.{◌≡◌, IfSome, IsTrue, codes};
 ghost use Rattle.std.specs.Str.{chars};
-ghost use Rattle.jv_meaning.specs.Text.{text_of};
+ghost use Rattle.jv_data.specs.Text.{text_of};
 ghost use Rattle.jq_ast.specs.Named.{name_of, named, named_as_pattern};
 ghost use Rattle.jq_tree.specs.Tree as form;
 ghost use Rattle.jq_shapes.specs.private.Shapes.{HasName};

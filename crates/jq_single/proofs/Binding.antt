@@ -1,7 +1,7 @@
 -- What is claimed of a run that goes on with another filter.
 use Rattle.std.proofs.Common.{◌≡◌, ◌∙◌, ℕ, List, Bool, true, false, Result, Ok, Err, refl, sym, ap, subst}
 use Rattle.std.specs.Result.{IsErrAnd}
-use Rattle.jv_meaning.specs.Value.{Value, boolean}
+use Rattle.jv_data.specs.Value.{Value, boolean}
 use Rattle.jv_data.specs.declared.values.Val.{Val}
 use Rattle.jq_natives.specs.Answers.{is_true}
 use Rattle.jq_meaning.specs.Continuations.{truth, on_conjunct, on_disjunct, on_test, on_error, on_source, in_bindings}
@@ -10,7 +10,7 @@ use Rattle.jq_tree.specs.Tree as tree
 use Rattle.jq_meaning.specs.Env.{Env, bound, value_of}
 use Rattle.jq_meaning.specs.Meaning.{Means, bindings_with}
 use Rattle.jq_meaning.specs.Runs.{Item, plain, Run, one, fail, bind, catch}
-use Rattle.jq_machine.proofs.RunLaws.{bind-one}
+use Rattle.jq_meaning.proofs.shared.machine.RunLaws.{bind-one}
 use Rattle.jq_single.specs.Single.{Ends, Changed, Keeps, Leaves}
 use Rattle.jq_single.specs.private.Gathering.{GoesOn}
 use Rattle.jv_data.specs.declared.containers.texts.SharedText.{SharedText}

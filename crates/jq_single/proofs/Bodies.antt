@@ -1,7 +1,7 @@
 -- The bodies that a call runs.
 use Rattle.std.proofs.Common.{◌≡◌, ◌∙◌, ℕ, ◌+◌, List, map, length, refl, sym, ap, add-one}
-use Rattle.jv_meaning.specs.Text.{text_of}
-use Rattle.jv_meaning.specs.Value.{Value}
+use Rattle.jv_data.specs.Text.{text_of}
+use Rattle.jv_data.specs.Value.{Value}
 use Rattle.jq_ast.proofs.shared.Counts.{count_trees}
 use Rattle.jq_ast.specs.Leaves.{literal_of}
 use Rattle.jq_ast.specs.Named.{named, named_member, named_pattern, named_tree}

@@ -1,6 +1,6 @@
 -- The run of a comparison of the input, or of `type`, with a constant.
 use Rattle.std.proofs.Common.{◌≡◌, ◌∙◌, ℕ, Bool, Option, Some, None, IfSome, Ok, codes, refl, sym, ap}
-use Rattle.jv_meaning.specs.Value.{Value, boolean, string}
+use Rattle.jv_data.specs.Value.{Value, boolean, string}
 use Rattle.jv_data.proofs.shared.Levels.{view-Bool}
 use Rattle.jv_data.specs.Kind.{kind_name}
 use Rattle.jv_data.specs.declared.values.Val as val
@@ -12,7 +12,7 @@ use Rattle.jq_meaning.specs.Env.{find_callee, find_inputs, no_callee}
 use Rattle.jq_meaning.specs.Meaning.{arguments_with, below}
 use Rattle.jq_meaning.specs.Runs.{Run, answered, plain, one}
 use Rattle.jq_meaning.specs.Steps.{operator_of}
-use Rattle.jq_machine.proofs.RunLaws.{bind-one}
+use Rattle.jq_meaning.proofs.shared.machine.RunLaws.{bind-one}
 use Rattle.jq_single.specs.declared.contexts.Context.{Context}
 use Rattle.jq_single.specs.private.Parts.{RunsTo, run}
 use Rattle.jq_single.specs.private.Scopes.{scope_env}

@@ -1,6 +1,6 @@
 -- What is claimed of the first output of a run.
 use Rattle.std.proofs.Common.{◌≡◌, ◌∙◌, List, [], ◌∷◌, Result, Ok, Err, refl, sym, ap}
-use Rattle.jv_meaning.specs.Value.{Value}
+use Rattle.jv_data.specs.Value.{Value}
 use Rattle.jv_data.specs.declared.values.Val.{Val}
 use Rattle.jq_meaning.specs.Runs.{Item, Ending, Done, Run, ended, then_run, bind_items, bind}
 use Rattle.jq_single.specs.Single.{Changed}

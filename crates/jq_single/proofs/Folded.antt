@@ -1,6 +1,6 @@
 -- What is claimed of the steps of a fold.
 use Rattle.std.proofs.Common.{◌≡◌, ◌∙◌, ℕ, List, [], ◌∷◌, ◌++◌, length, get_or, Option, Some, None, IfSome, option_to_list, Result, Ok, Err, refl, sym, ap, subst, arith}
-use Rattle.jv_meaning.specs.Value.{Value, null, array, items_of}
+use Rattle.jv_data.specs.Value.{Value, null, array, items_of}
 use Rattle.jv_data.specs.View.{view}
 use Rattle.jv_data.specs.declared.values.Val.{Val}
 use Rattle.jq_meaning.specs.Builtins.{values_in_array}
@@ -12,7 +12,7 @@ use Rattle.jq_meaning.specs.Meaning.{Means, bindings_with, meaning}
 use Rattle.jq_meaning.specs.Runs.{Item, plain, located, value_in, path_error, Ending, Done, Raised, Broken, Stopped, Run, none, one, go_on, then_run, bind_items, bind, gathered}
 use Rattle.jq_tree.specs.Tree.{Name, Tree}
 use Rattle.jq_tree.specs.Tree as tree
-use Rattle.jq_machine.proofs.RunLaws.{bind-one_right, then_run-none}
+use Rattle.jq_meaning.proofs.shared.machine.RunLaws.{bind-one_right, then_run-none}
 use Rattle.jq_single.specs.Single.{Ends}
 use Rattle.jq_single.specs.private.Gathering.{Gathers, GoesOn, folded, last_or, state_in, turn}
 use Rattle.jq_single.specs.private.Scopes.{scope_env}

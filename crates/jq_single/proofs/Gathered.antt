@@ -1,7 +1,7 @@
 -- What is claimed of the outputs that are added to a list, or that change the state of a fold.
 use Rattle.std.proofs.Common.{◌≡◌, ◌∙◌, true, false, List, [], ◌∷◌, ◌++◌, map, reverse, ℕ, Option, Some, option_to_list, Result, Ok, Err, refl, sym, ap, subst}
 use Rattle.std.proofs.lemmas.List.{append-nil, map-append, reverse-append}
-use Rattle.jv_meaning.specs.Value.{Value, array, items_of}
+use Rattle.jv_data.specs.Value.{Value, array, items_of}
 use Rattle.jv_data.specs.View.{view}
 use Rattle.jv_data.specs.declared.values.Val.{Val}
 use Rattle.jq_natives.specs.Answers.{is_true}
@@ -13,7 +13,7 @@ use Rattle.jq_meaning.specs.Meaning.{Means, bindings_with}
 use Rattle.jq_meaning.specs.Runs.{Item, plain, value_in, Ending, Done, Run, none, one, fail, before, then_run, bind_items, bind, gathered}
 use Rattle.jq_state.specs.Items.{item_of}
 use Rattle.jq_state.specs.declared.items.Item as items
-use Rattle.jq_machine.proofs.RunLaws.{bind-bind, bind-one, bind-one_right, bind-then_run, then_run-assoc, then_run-none}
+use Rattle.jq_meaning.proofs.shared.machine.RunLaws.{bind-bind, bind-one, bind-one_right, bind-then_run, then_run-assoc, then_run-none}
 use Rattle.jq_single.specs.Single.{Ends}
 use Rattle.jq_single.specs.private.Gathering.{Gathers, GathersAll, given_of, made, rest_run}
 use Rattle.jq_single.specs.private.Parts.{run}

@@ -1,6 +1,6 @@
 -- The run of a call of a native, by the number of its arguments.
 use Rattle.std.proofs.Common.{◌≡◌, ◌∙◌, ℕ, List, [], ◌∷◌, map, length, get_or, refl, sym, ap, arith}
-use Rattle.jv_meaning.specs.Value.{Value}
+use Rattle.jv_data.specs.Value.{Value}
 use Rattle.jq_ast.specs.Named.{named}
 use Rattle.jq_ast.specs.declared.tree.Tree as ast
 use Rattle.jq_natives.specs.declared.native.Native.{Native}

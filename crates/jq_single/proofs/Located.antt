@@ -1,11 +1,11 @@
 -- What is claimed of paths.
 use Rattle.std.proofs.Common.{◌≡◌, ◌∙◌, ℕ, List, [], ◌∷◌, map, length, get_or, sym, ap, arith}
-use Rattle.jv_meaning.specs.Value.{Value, null, array, items_of}
+use Rattle.jv_data.specs.Value.{Value, null, array, items_of}
 use Rattle.jq_ast.specs.Named.{named}
 use Rattle.jq_ast.specs.declared.tree.Tree as ast
-use Rattle.jq_machine.specs.Operations.{path_item}
-use Rattle.jq_machine.proofs.RunLaws.{bind-bind}
-use Rattle.jq_machine.proofs.ShapeLaws.{paths-bind}
+use Rattle.jq_meaning.specs.machine.Operations.{path_item}
+use Rattle.jq_meaning.proofs.shared.machine.RunLaws.{bind-bind}
+use Rattle.jq_meaning.proofs.shared.machine.ShapeLaws.{paths-bind}
 use Rattle.jq_tree.specs.Tree.{Trees, trees_of}
 use Rattle.jq_meaning.specs.Builtins.{first_run, paths}
 use Rattle.jq_meaning.specs.Meaning.{arguments_with, below}

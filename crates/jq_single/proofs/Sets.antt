@@ -6,8 +6,8 @@ use Rattle.std.specs.Bool.{Decides}
 use Rattle.std.specs.Ordering.{is_eq}
 use mathlib.Core.HLevel.{hedberg}
 use Rattle.jv_data.specs.View.{view}
-use Rattle.jv_meaning.proofs.Order.{same_Decides}
-use Rattle.jv_meaning.specs.Value.{Value, compare}
+use Rattle.jv_data.proofs.shared.Order.{same_Decides}
+use Rattle.jv_data.specs.Value.{Value, compare}
 use Rattle.jq_meaning.specs.Runs.{Item, plain, Run, none, one, fail}
 use Rattle.jq_single.specs.Single.{Changed}
 use Rattle.jq_single.specs.declared.stops.Stop.{Stop}

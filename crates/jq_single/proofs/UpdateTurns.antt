@@ -8,8 +8,8 @@ use Rattle.jv_data.specs.View.{view}
 use Rattle.jv_data.specs.declared.containers.arrays.Array.{Array}
 use Rattle.jv_data.specs.declared.values.Val.{Val}
 use Rattle.jv_data.specs.declared.values.Val as val
-use Rattle.jv_meaning.proofs.Items.{values_of-items_of}
-use Rattle.jv_meaning.specs.Value.{Value, array, items_of, values_of}
+use Rattle.jv_data.proofs.shared.Items.{values_of-items_of}
+use Rattle.jv_data.specs.Value.{Value, array, items_of, values_of}
 use Rattle.jv_value.specs.GetPath.{getpath_of}
 use Rattle.jq_ast.specs.Named.{name_of, named}
 use Rattle.jq_ast.specs.declared.names.Modify.{Modify}
@@ -23,9 +23,9 @@ use Rattle.jq_meaning.specs.Builtins.{values_in_array}
 use Rattle.jq_meaning.specs.Env.{Env, bound, closure, with_arguments}
 use Rattle.jq_meaning.specs.Meaning.{meaning}
 use Rattle.jq_meaning.specs.Runs.{Item, plain, located, value_in, Ending, Done, Raised, Broken, Stopped, Run, none, one, fail, gathered, answered, paths_in}
-use Rattle.jq_update_laws.specs.Known.{HasModify}
-use Rattle.jq_update_laws.specs.laws.Updates.{ModifyStays}
-use Rattle.jq_update_laws.specs.laws.Updating.{with_answer, on_outputs, turn_of, turns, updated, update_run}
+use Rattle.jq_meaning.specs.updates.Known.{HasModify}
+use Rattle.jq_meaning.specs.laws.Updates.{ModifyStays}
+use Rattle.jq_meaning.specs.laws.Updating.{with_answer, on_outputs, turn_of, turns, updated, update_run}
 use Rattle.jq_single.specs.Single.{Changed, Ends}
 use Rattle.jq_single.specs.declared.stops.Stop.{Stop}
 use Rattle.jq_single.specs.declared.stops.Stop.TheVariants as stop

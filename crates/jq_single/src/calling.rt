@@ -1,6 +1,6 @@
 // Calls of one output, and those whose output replaces their input.
 ghost use Rattle.std.specs.Prelude.{◌≡◌, map};
-ghost use Rattle.jv_meaning.specs.Value.{Value};
+ghost use Rattle.jv_data.specs.Value.{Value};
 ghost use Rattle.jv_data.specs.View.{view};
 ghost use Rattle.jq_ast.specs.Named.{name_of, named};
 ghost use Rattle.jq_tree.specs.Tree.{trees_of};

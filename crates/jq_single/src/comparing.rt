@@ -4,7 +4,7 @@ ghost use Rattle.jv_data.specs.Kind.{kind_name};
 ghost use Rattle.jv_data.specs.Shared.{text_in};
 ghost use Rattle.jv_data.specs.View.{view};
 ghost use Rattle.jv_data.specs.declared.values.Val as val;
-ghost use Rattle.jv_meaning.specs.Value.{Value, string};
+ghost use Rattle.jv_data.specs.Value.{Value, string};
 ghost use Rattle.jq_ast.specs.Leaves.{literal_of, operator_of};
 ghost use Rattle.jq_ast.specs.Named.{name_of, named};
 ghost use Rattle.jq_tree.specs.Tree as form;

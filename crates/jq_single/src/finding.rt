@@ -1,6 +1,6 @@
 // What a name is bound to in a scope.
 ghost use Rattle.std.specs.Prelude.{◌≡◌, IfOk, IsTrue};
-ghost use Rattle.jv_meaning.specs.Value.{Value};
+ghost use Rattle.jv_data.specs.Value.{Value};
 ghost use Rattle.jv_data.specs.View.{view};
 ghost use Rattle.jq_ast.specs.Named.{name_of};
 ghost use Rattle.jq_meaning.specs.Env as meaning;
@@ -9,15 +9,15 @@ ghost use Rattle.jq_state.specs.Environments.{count_of, envs_of};
 ghost use Rattle.jq_single.specs.private.Scopes.{scope_env};
 ghost use Rattle.jq_single.specs.private.Finds.{FindsBound, FindsInPrelude, found_in};
 ghost use Rattle.jq_state.specs.Nodes.{env_at};
-ghost use Rattle.jq_update_laws.specs.Known.{HasModify};
+ghost use Rattle.jq_meaning.specs.updates.Known.{HasModify};
 ghost use Rattle.jq_operations.specs.Callees.{CalleeFits, callee_in};
 
 use crate::scopes::{Outside, Scope};
 use jq_ast::{Function, Name, Tree};
+use jq_meaning::updates::the_preludes_update_stays;
 use jq_operations::{Callee, find_callee, find_in_prelude, find_value};
 use jq_state::environments::Nodes;
 use jq_state::names::{is_function, is_text};
-use jq_update_laws::laws::the_preludes_update_stays;
 use jv_data::{NoMemory, Val};
 
 /// What a call finds: a function, with the scope that begins with its own binding, or a

@@ -1,8 +1,8 @@
 // Outputs, and the rest of the filter on them.
 ghost use Rattle.std.specs.Prelude.{◌≡◌, ◌++◌, ◌∷◌, [], MatchOption, OnOk, ℕ, List, map};
-ghost use Rattle.jv_meaning.specs.Value.{Value};
+ghost use Rattle.jv_data.specs.Value.{Value};
 ghost use Rattle.jv_data.specs.View.{view};
-ghost use Rattle.jq_machine.specs.Operations.{path_item, result_of};
+ghost use Rattle.jq_meaning.specs.machine.Operations.{path_item, result_of};
 ghost use Rattle.jq_state.specs.Steps.{operation_of};
 ghost use Rattle.jq_meaning.specs.Runs.{Run, before, none, one, value_in};
 ghost use Rattle.jq_meaning.specs.Runs as runs;

@@ -1,5 +1,5 @@
 // Operators on two values.
-ghost use Rattle.jv_meaning.specs.Value.{Value};
+ghost use Rattle.jv_data.specs.Value.{Value};
 ghost use Rattle.jv_data.specs.View.{view};
 ghost use Rattle.jq_ast.specs.Leaves as leaves;
 ghost use Rattle.jq_meaning.specs.Continuations.{on_left};

@@ -1,7 +1,7 @@
 // Strings that contain filters, built from their end, and formats.
 ghost use Rattle.std.specs.Prelude.{ℕ, List, []};
 ghost use Rattle.jv_data.specs.Shared.{};
-ghost use Rattle.jv_meaning.specs.Text.{text_of};
+ghost use Rattle.jv_data.specs.Text.{text_of};
 ghost use Rattle.jv_data.specs.View.{view};
 ghost use Rattle.jv_text.specs.Formats.{Text};
 ghost use Rattle.jq_ast.specs.Named.{name_of, named};

@@ -1,6 +1,6 @@
 // Updates (`f |= g`): the paths of f are gathered once, and each part becomes the first output of g.
 ghost use Rattle.std.specs.Prelude.{◌≡◌, ◌++◌, ◌∷◌, [], IfErr, IfOk, IfSome, Ok, OnOk, map};
-ghost use Rattle.jv_meaning.specs.Value.{Value};
+ghost use Rattle.jv_data.specs.Value.{Value};
 ghost use Rattle.jv_data.specs.View.{view};
 ghost use Rattle.jv_value.specs.GetPath.{getpath_of};
 ghost use Rattle.jq_natives.specs.declared.native.Native.TheVariants.{DelPaths, SetPath};
@@ -20,9 +20,9 @@ use crate::paths::start_at;
 use crate::rests::Rest;
 use crate::stops::{Stop, untold};
 use jq_ast::{Modify, Tree};
+use jq_meaning::updates::an_update_is_its_turns;
 use jq_natives::Native;
 use jq_shapes::pays_for_copy;
-use jq_update_laws::laws::an_update_is_its_turns;
 use jv_data::{Array, NoMemory, Val};
 use jv_value::getpath;
 use jv_value::laws::deleting_no_path_changes_nothing;

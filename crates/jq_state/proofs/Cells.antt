@@ -4,10 +4,10 @@ use Rattle.std.proofs.lemmas.Bool.Decides.{nat_tests}
 use Rattle.std.proofs.lemmas.List.{append-nil, same_from_push, map_push, length-set, take_all, take-append-le, reverse-append, reverse-reverse, length-reverse, length-map, take-map, get_or_at, get_or_past, get_or-map, set_at, set_past, map-set}
 use Rattle.std.specs.declared.alloc.Global.{Global}
 use Rattle.jq_meaning.specs.Env.{Env}
-use Rattle.jq_machine.specs.State.{Cell, ForkPoint, fork, no_more}
-use Rattle.jq_machine.specs.State as machine
-use Rattle.jq_machine.specs.Stack.{cut, cell_at, set_cell}
-use Rattle.jq_machine.specs.Operations.{state_in}
+use Rattle.jq_meaning.specs.machine.State.{Cell, ForkPoint, fork, no_more}
+use Rattle.jq_meaning.specs.machine.State as machine
+use Rattle.jq_meaning.specs.machine.Stack.{cut, cell_at, set_cell}
+use Rattle.jq_meaning.specs.machine.Operations.{state_in}
 use Rattle.jq_state.specs.Items.{item_of}
 use Rattle.jq_state.specs.Views.{is_empty}
 use Rattle.jq_state.specs.Forks.{cell_of, fork_in, ForksFit}

@@ -4,7 +4,7 @@ use Rattle.std.proofs.lemmas.List.{get_or_append_left, get_or-take, take-append-
 use Rattle.std.proofs.Math.Seq.{take-length, get_or-append_seam}
 use Rattle.jq_meaning.specs.Env.{Env, outermost}
 use Rattle.jq_meaning.specs.Runs.{none}
-use Rattle.jq_machine.specs.State as machine
+use Rattle.jq_meaning.specs.machine.State as machine
 use Rattle.jq_state.specs.Builds.{builds}
 use Rattle.jq_state.proofs.Chains.{builds-length}
 use Rattle.jq_state.specs.Environments.{count_of, first_count}

@@ -2,14 +2,14 @@
 use Rattle.std.proofs.Common.{◌≡◌, ℕ, zero, suc, ◌+◌, ◌<◌, ◌≤◌, List, [], ◌∷◌, ◌++◌, map, reverse, length, get_or, set, take, ℤ, pos, true, refl, sym, ap, ◌∙◌, arith, Vec}
 use Rattle.std.proofs.lemmas.List.{set-get_or}
 use Rattle.std.specs.declared.alloc.Global.{Global}
-use Rattle.jv_meaning.specs.Value.{number}
+use Rattle.jv_data.specs.Value.{number}
 use Rattle.jq_meaning.specs.Runs.{Done, Run, before, one, plain}
 use Rattle.jq_meaning.specs.Runs as runs
 use Rattle.jq_meaning.specs.Builtins.{steps_between, numbers_up_to}
 use Rattle.jq_meaning.specs.Env.{Env}
-use Rattle.jq_machine.specs.Machine.{step_of}
-use Rattle.jq_machine.specs.Operations.{deliver, deliver_items}
-use Rattle.jq_machine.specs.State as machine
+use Rattle.jq_meaning.specs.machine.Machine.{step_of}
+use Rattle.jq_meaning.specs.machine.Operations.{deliver, deliver_items}
+use Rattle.jq_meaning.specs.machine.State as machine
 use Rattle.jq_state.specs.Chains.{continuations, frames_at, height_of, mark_of}
 use Rattle.jq_state.specs.Environments.{count_of, first_count}
 use Rattle.jq_state.specs.Forks.{cell_of, choice_in, fork_in, ForkFits, ForksFit, last_left, left_in}

@@ -4,7 +4,7 @@ use Rattle.std.proofs.lemmas.List.FromFn.{length-map-range_with_len}
 use Rattle.std.proofs.lemmas.Int.{ints}
 use Rattle.std.specs.Prelude.{◌↔◌, ◌+ℤ◌, ◌*ℤ◌, ◌<ℤ◌, int_lt, IsTrue, FitsSigned}
 use Rattle.std.specs.List.{range_with_len}
-use Rattle.jv_meaning.specs.Value.{number}
+use Rattle.jv_data.specs.Value.{number}
 use Rattle.jq_meaning.specs.Runs.{Item, plain, Run, Done, one, before}
 use Rattle.jq_meaning.specs.Builtins.{steps_between, step_from, numbers_up_to}
 

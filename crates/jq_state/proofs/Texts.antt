@@ -7,8 +7,8 @@ use Rattle.std.proofs.lemmas.Bool.Decides.{Decides-eqb}
 use Rattle.std.proofs.lemmas.List.{length-map}
 use Rattle.std.proofs.lemmas.Slice.Eq.{bytes_eq-Decides}
 use Rattle.std.proofs.lemmas.Str.{IsUtf8-string_bytes}
-use Rattle.jv_meaning.proofs.shared.Texts.{same_characters}
-use Rattle.jv_meaning.specs.Text.{text_of}
+use Rattle.jv_data.proofs.shared.Texts.{same_characters}
+use Rattle.jv_data.specs.Text.{text_of}
 use Rattle.jq_state.specs.Listed.{is_called, is_variable}
 use Rattle.jq_state.specs.Nodes.{program_binding}
 use Rattle.jq_state.specs.declared.environments.ProgramBinding.{ProgramBinding}

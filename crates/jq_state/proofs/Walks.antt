@@ -1,13 +1,13 @@
 -- Environments by index: pushing, cutting and reading nodes, and the program's own environments.
 use Rattle.std.proofs.Common.{◌≡◌, ℕ, zero, suc, ◌+◌, ◌<◌, ◌≤◌, List, [], ◌∷◌, ◌++◌, length, get_or, take, refl, sym, ap, subst, ◌∙◌, arith, length-append, Bool, true, false, if◌then◌else◌}
 use Rattle.std.proofs.lemmas.List.{get_or-take, length-map}
-use Rattle.jv_meaning.specs.Value.{Value}
-use Rattle.jv_meaning.specs.Text.{text_of}
+use Rattle.jv_data.specs.Value.{Value}
+use Rattle.jv_data.specs.Text.{text_of}
 use Rattle.jq_ast.specs.Named.{named}
 use Rattle.jq_meaning.specs.Env.{Env, outermost, bound, find_inputs}
 use Rattle.jq_meaning.specs.Env as env
 use Rattle.jq_meaning.specs.Runs.{Run, none}
-use Rattle.jq_bindings.specs.Programs.{program_env, with_bindings}
+use Rattle.jq_meaning.specs.Programs.{program_env, with_bindings}
 use Rattle.jq_state.specs.Builds.{builds}
 use Rattle.jq_state.specs.Nodes.{program_binding, program_envs, env_at, binding_in, node_in, BindingFits, NodeFits, NodesFit}
 use Rattle.jq_state.specs.Environments.{envs_of, count_of, program_of}

@@ -2,7 +2,7 @@
 use Rattle.std.specs.Prelude.{◌≡◌, ℕ, ◌+◌, ◌≤◌, List, [], ◌∷◌, ◌++◌, length, take, slice_index_or}
 use Rattle.jq_meaning.specs.Env.{Env}
 use Rattle.jq_state.specs.Builds.{builds}
-use Rattle.jq_machine.specs.State as machine
+use Rattle.jq_meaning.specs.machine.State as machine
 use Rattle.jq_state.specs.Links.{frame_in, FrameFits, last_mark}
 use Rattle.jq_state.specs.declared.frames.Frame.{Frame}
 use Rattle.jq_state.specs.declared.frames.Frames.{Frames}

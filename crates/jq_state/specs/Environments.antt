@@ -1,6 +1,6 @@
 -- The environments that the nodes of a run represent, by index.
 use Rattle.std.specs.Prelude.{ℕ, ◌+◌, List, length}
-use Rattle.jv_meaning.specs.Value.{Value}
+use Rattle.jv_data.specs.Value.{Value}
 use Rattle.jq_meaning.specs.Env.{Env, outermost}
 use Rattle.jq_meaning.specs.Env as env
 use Rattle.jq_meaning.specs.Runs.{Run}

@@ -5,7 +5,7 @@ use Rattle.jq_ast.specs.Named.{named}
 use Rattle.jq_meaning.specs.Builtins.{steps_between, plain_items, numbers_up_to}
 use Rattle.jq_meaning.specs.Env.{Env, find_inputs}
 use Rattle.jq_meaning.specs.Runs.{Run, Done}
-use Rattle.jq_machine.specs.State as machine
+use Rattle.jq_meaning.specs.machine.State as machine
 use Rattle.jq_state.specs.Items.{item_of}
 use Rattle.jq_state.specs.Links.{scope_in, last_mark}
 use Rattle.jq_state.specs.declared.frames.Frame.{Frame}

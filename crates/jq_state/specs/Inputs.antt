@@ -1,6 +1,6 @@
 -- What `inputs` returns, as a run.
 use Rattle.std.specs.Prelude.{map, Option, Some, None}
-use Rattle.jv_meaning.specs.Value.{Value}
+use Rattle.jv_data.specs.Value.{Value}
 use Rattle.jv_data.specs.View.{view}
 use Rattle.jv_data.specs.declared.values.Val.{Val}
 use Rattle.jq_meaning.specs.Runs.{Run, Ending, Done, Raised}

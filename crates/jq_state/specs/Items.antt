@@ -1,7 +1,7 @@
 -- The item of the meaning that an item represents.
 use Rattle.std.specs.Prelude.{List, Option, Some, None}
 use Rattle.jv_data.specs.Held.{values_in}
-use Rattle.jv_meaning.specs.Value.{Value}
+use Rattle.jv_data.specs.Value.{Value}
 use Rattle.jv_data.specs.View.{view}
 use Rattle.jq_meaning.specs.Runs.{plain, located}
 use Rattle.jq_meaning.specs.Runs as runs

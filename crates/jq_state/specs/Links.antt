@@ -1,7 +1,7 @@
 -- The machine's frame that a frame represents, and which indexes it may name.
 use Rattle.std.specs.Prelude.{ℕ, ◌+◌, ◌<◌, ◌≤◌, List, [], ◌∷◌}
 use Rattle.jq_meaning.specs.Env.{Env}
-use Rattle.jq_machine.specs.State as machine
+use Rattle.jq_meaning.specs.machine.State as machine
 use Rattle.jq_state.specs.Nodes.{env_at}
 use Rattle.jq_state.specs.Steps.{step_in}
 use Rattle.jq_state.specs.declared.frames.Frame.{Frame}

@@ -1,12 +1,12 @@
 -- What is done next, and the machine's state that a run's state represents.
 use Rattle.std.specs.Prelude.{◌≡◌, ℕ, ◌<◌, List}
-use Rattle.jv_meaning.specs.Value.{Value}
+use Rattle.jv_data.specs.Value.{Value}
 use Rattle.jv_data.specs.View.{view}
 use Rattle.jq_ast.specs.Named.{named, named_as_pattern}
 use Rattle.jq_meaning.specs.Env.{Env}
 use Rattle.jq_meaning.specs.Runs.{Run}
 use Rattle.jq_meaning.specs.Runs as runs
-use Rattle.jq_machine.specs.State as machine
+use Rattle.jq_meaning.specs.machine.State as machine
 use Rattle.jq_state.specs.Environments.{count_of}
 use Rattle.jq_state.specs.Items.{item_of}
 use Rattle.jq_state.specs.Links.{scope_in}

@@ -2,8 +2,8 @@
 use Rattle.std.specs.Prelude.{List, map, reverse}
 use Rattle.jv_data.specs.Held.{values_in, members_in}
 use Rattle.jv_data.specs.Shared.{text_in}
-use Rattle.jv_meaning.specs.Value.{string}
-use Rattle.jv_meaning.specs.Text.{text_of}
+use Rattle.jv_data.specs.Value.{string}
+use Rattle.jv_data.specs.Text.{text_of}
 use Rattle.jv_data.specs.View.{view}
 use Rattle.jq_ast.specs.Leaves.{key_of, operator_of}
 use Rattle.jq_ast.specs.Named.{name_of, named, named_as_pattern, named_as_part, named_entry}
@@ -12,7 +12,7 @@ use Rattle.jq_ast.specs.declared.tree.Entry.{Entry}
 use Rattle.jq_ast.specs.declared.tree.Piece.{Piece}
 use Rattle.jq_tree.specs.Tree as tree
 use Rattle.jq_meaning.specs.Builtins as builtins
-use Rattle.jq_machine.specs.State as machine
+use Rattle.jq_meaning.specs.machine.State as machine
 use Rattle.jq_state.specs.Items.{item_of}
 use Rattle.jq_state.specs.declared.steps.Operation.{Operation}
 use Rattle.jq_state.specs.declared.steps.Operation.TheVariants as operation

@@ -1,9 +1,9 @@
 -- The machine's frames and fork points that a run's state represents.
 use Rattle.std.specs.Prelude.{◌≡◌, ℕ, List, [], ◌∷◌, map, max, reverse, take, Bool, true, false}
-use Rattle.jv_meaning.specs.Value.{Value}
+use Rattle.jv_data.specs.Value.{Value}
 use Rattle.jq_meaning.specs.Env.{Env}
 use Rattle.jq_meaning.specs.Runs.{Run}
-use Rattle.jq_machine.specs.State as machine
+use Rattle.jq_meaning.specs.machine.State as machine
 use Rattle.jq_state.specs.Environments.{envs_of, first_count}
 use Rattle.jq_state.specs.Chains.{continuations, frames_at}
 use Rattle.jq_state.specs.Forks.{fork_in, last_envs, last_frames, last_left}

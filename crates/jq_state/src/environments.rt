@@ -44,10 +44,10 @@ pub struct Nodes<'p> {
 
 impl<'p> Nodes<'p> {
     ghost use Rattle.std.specs.Prelude.{◌≡◌, ◌≤◌, ◌++◌, ◌∷◌, [], IfOk, OnOk, IfSome, IfNone, take, map};
-    ghost use Rattle.jv_meaning.specs.Value.{Value};
+    ghost use Rattle.jv_data.specs.Value.{Value};
     ghost use Rattle.jq_meaning.specs.Env.{outermost};
     ghost use Rattle.jq_meaning.specs.Runs.{Run};
-    ghost use Rattle.jq_bindings.specs.Programs.{program_env};
+    ghost use Rattle.jq_meaning.specs.Programs.{program_env};
     ghost use Rattle.jq_state.specs.Nodes.{BindingFits, NodeFits, env_at, node_in, program_binding, program_envs};
     ghost use Rattle.jq_state.specs.Listed.{bindings_in, items_in};
     ghost use Rattle.jq_state.specs.Environments.{count_of, envs_of, first_count, program_of};

@@ -1,6 +1,6 @@
 // Items: a value, and inside `path(f)` its path.
 ghost use Rattle.std.specs.Prelude.{◌≡◌, ◌++◌, ◌∷◌, [], IfOk, OnOk, Some, None, option_map, is_some, unwrap_or};
-ghost use Rattle.jv_meaning.specs.Value.{array, items_of};
+ghost use Rattle.jv_data.specs.Value.{array, items_of};
 ghost use Rattle.jv_data.specs.View.{view};
 ghost use Rattle.jq_meaning.specs.Runs.{plain, located, value_in, path_of};
 ghost use Rattle.jq_state.specs.Items.{keys_of, item_of};

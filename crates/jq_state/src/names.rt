@@ -1,6 +1,6 @@
 // Comparison of names by their texts.
 ghost use Rattle.std.specs.Prelude.{◌≡◌, bytes_eq, length, map};
-ghost use Rattle.jv_meaning.specs.Text.{text_of};
+ghost use Rattle.jv_data.specs.Text.{text_of};
 ghost use Rattle.jq_ast.specs.Named.{name_of};
 ghost use Rattle.jq_meaning.specs.Env as meaning;
 

@@ -1,6 +1,6 @@
 // Numbers of a range.
 ghost use Rattle.std.specs.Prelude.{◌≡◌, ◌↔◌, ◌<◌, ◌∷◌, [], length, IsTrue, IfNone, IfSome};
-ghost use Rattle.jv_meaning.specs.Value.{number};
+ghost use Rattle.jv_data.specs.Value.{number};
 ghost use Rattle.jq_meaning.specs.Builtins.{steps_between, numbers_up_to};
 ghost use Rattle.jq_meaning.specs.Runs.{before, one, plain};
 

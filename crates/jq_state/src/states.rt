@@ -39,13 +39,13 @@ impl Drop for State<'_> {
 
 impl<'p> State<'p> {
     ghost use Rattle.std.specs.Prelude.{◌≡◌, ◌≤◌, ◌+◌, ◌∷◌, ◌++◌, [], IfOk, OnOk, IfSome, IfNone, IsSome, map};
-    ghost use Rattle.jv_meaning.specs.Value.{Value};
+    ghost use Rattle.jv_data.specs.Value.{Value};
     ghost use Rattle.jq_meaning.specs.Env.{bound, find_inputs};
     ghost use Rattle.jq_meaning.specs.Runs.{Run};
-    ghost use Rattle.jq_machine.specs.Operations.{state_in};
-    ghost use Rattle.jq_machine.specs.Stack.{cell_at, cut, set_cell};
-    ghost use Rattle.jq_machine.specs.Machine.{step_of};
-    ghost use Rattle.jq_machine.specs.State.{give, go_back, moves, state};
+    ghost use Rattle.jq_meaning.specs.machine.Operations.{state_in};
+    ghost use Rattle.jq_meaning.specs.machine.Stack.{cell_at, cut, set_cell};
+    ghost use Rattle.jq_meaning.specs.machine.Machine.{step_of};
+    ghost use Rattle.jq_meaning.specs.machine.State.{give, go_back, moves, state};
     ghost use Rattle.jq_state.specs.Items.{item_of};
     ghost use Rattle.jq_state.specs.Nodes.{BindingFits, binding_in, env_at, program_binding};
     ghost use Rattle.jq_state.specs.Listed.{items_in};

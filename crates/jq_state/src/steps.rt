@@ -1,8 +1,8 @@
 // What a frame does with an item that is given to it, as references to the tree and the values that it keeps.
 ghost use Rattle.std.specs.Prelude.{◌≡◌, IfOk, map};
 ghost use Rattle.jq_ast.specs.Named.{named};
-ghost use Rattle.jq_machine.specs.Matching as machine;
-ghost use Rattle.jq_machine.specs.State.{Scope};
+ghost use Rattle.jq_meaning.specs.machine.Matching as machine;
+ghost use Rattle.jq_meaning.specs.machine.State.{Scope};
 ghost use Rattle.jq_state.specs.Steps.{operation_of, selecting_in, combining_in, making_in, binding_in, holding_in, step_in, task_of, binder_of, fold_of};
 
 use crate::items::Item;

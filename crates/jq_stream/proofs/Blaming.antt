@@ -1,6 +1,6 @@
 -- The faults of calls that come one after the other, and the failures of their devices.
 use Rattle.std.proofs.Common.{◌≡◌, ◌≢◌, ℕ, inl, inr, sym, ap, subst, Result, Ok, Err, IfErr, OnOk}
-use Rattle.jv_meaning.proofs.shared.Results.{if_err_map}
+use Rattle.jv_data.proofs.shared.Results.{if_err_map}
 use Rattle.jq_devices.proofs.shared.Failures.{failed_after, failed_more}
 use Rattle.jq_devices.specs.Watched.{HasFailed}
 use Rattle.jq_devices.specs.declared.faults.StreamFault.{StreamFault}

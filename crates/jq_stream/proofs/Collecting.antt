@@ -2,7 +2,7 @@
 use Rattle.std.proofs.Common.{◌≡◌, ◌≢◌, ℕ, true, false, List, ◌++◌, Option, Some, Result, Ok, Err, IsErrAnd, sym, subst, refl}
 use Rattle.std.specs.Io.KnownBytes.{Consumes, Keeps, IsAtEnd}
 use Rattle.std.proofs.KnownBytes.{Consumes-kept}
-use Rattle.jv_meaning.specs.Value.{Value}
+use Rattle.jv_data.specs.Value.{Value}
 use Rattle.jv_text.specs.Cutting.{HasGiven, AllGiven, fault_of, is_finished}
 use Rattle.jv_text.specs.declared.cutting.Cutter.{Cutter}
 use Rattle.jv_text.specs.declared.faults.Fault.{Fault}

@@ -1,6 +1,6 @@
 -- The values that a cutter returns.
 use Rattle.std.proofs.Common.{◌≡◌, ℕ, ◌<◌, Bool, false, List, [], ◌∷◌, ◌++◌, length, Option, Some, inl, sym, ap, ◌∙◌, refl, subst, length-append, arith}
-use Rattle.jv_meaning.specs.Value.{Value}
+use Rattle.jv_data.specs.Value.{Value}
 use Rattle.jv_cut.specs.Cut.{cut, cut_from}
 use Rattle.jv_text.specs.Stream.{stream, left}
 use Rattle.jv_text.specs.Cutting.{HasGiven, AllGiven, EndsIn, fault_of, rest_of, is_finished}

@@ -1,7 +1,7 @@
 -- The bytes of an input, if they are known.
 use Rattle.std.proofs.Common.{◌≡◌, ℕ, true, false, List, [], ◌++◌, Option, Some, None, inl, inr, sym, ap, ◌∙◌, refl, append-nil}
 use Rattle.std.specs.Io.KnownBytes.{Consumes, IsAtEnd}
-use Rattle.jv_meaning.specs.Value.{Value}
+use Rattle.jv_data.specs.Value.{Value}
 use Rattle.jv_cut.specs.Rest.{Rest, MayFollow}
 use Rattle.jv_text.specs.Stream.{clean, open_text, fault, stream, left, after_values}
 use Rattle.jv_text.specs.Cutting.{HasGiven, AllGiven, fault_of, rest_of, is_finished}

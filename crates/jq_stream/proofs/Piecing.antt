@@ -6,7 +6,7 @@ use Rattle.std.specs.Prelude.{unwrap_or}
 use Rattle.std.specs.Io.KnownBytes.{Appends}
 use Rattle.std.proofs.lemmas.Bool.{lt-ltb}
 use Rattle.std.proofs.lemmas.List.{length-map}
-use Rattle.jv_meaning.specs.Value.{Value}
+use Rattle.jv_data.specs.Value.{Value}
 use Rattle.jv_text.specs.declared.printing.Style.{Style}
 use Rattle.jq_natives.specs.Answers.{is_true}
 use Rattle.jq_meaning.specs.Runs.{Run, Item, none, value_in}

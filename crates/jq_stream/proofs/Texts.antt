@@ -7,7 +7,7 @@ use Rattle.std.specs.Char.{is_ascii}
 use Rattle.std.specs.Fmt.{decimal, digits, digits_onto, digit_glyph}
 use Rattle.std.specs.List.{list_all}
 use Rattle.std.specs.Str.{chars, IsAscii}
-use Rattle.jv_meaning.proofs.shared.Ascii.{ascii_from_all}
+use Rattle.jv_data.proofs.shared.Ascii.{ascii_from_all}
 use Rattle.jv_text.specs.FaultWords.{fault_place, fault_words, fault_text, placed}
 use Rattle.jv_text.specs.declared.faults.Fault.{Fault}
 use Rattle.jv_text.specs.declared.faults.Fault.TheVariants.{Malformed, Unfinished, NotWhole, TooDeep, TooLong, NoMemory}

@@ -1,6 +1,6 @@
 -- The texts of a whole input.
 use Rattle.std.specs.Prelude.{◌≡◌, ◌⊎◌, List, Option, Some, None}
-use Rattle.jv_meaning.specs.Value.{Value}
+use Rattle.jv_data.specs.Value.{Value}
 use Rattle.jv_text.specs.Stream.{Values, clean, open_text, fault}
 use Rattle.jv_text.specs.declared.faults.Fault.{Fault}
 

@@ -1,6 +1,6 @@
 // Laws of the pieces of runs on each input.
 ghost use Rattle.std.specs.Prelude.{◌≡◌, List, length};
-ghost use Rattle.jv_meaning.specs.Value.{Value};
+ghost use Rattle.jv_data.specs.Value.{Value};
 ghost use Rattle.jq_pages.specs.Contents.{folded_in};
 ghost use Rattle.jq_pages.specs.Folds.{all, errors, output};
 ghost use Rattle.jq_pages.specs.Totals.{totals};

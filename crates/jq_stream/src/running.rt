@@ -1,6 +1,6 @@
 // A filter on a stream of texts.
 ghost use Rattle.std.specs.Prelude.{◌≡◌, ◌≢◌, IfErr, IfOk, OnErr, OnOk, map, true, false};
-ghost use Rattle.jv_meaning.specs.Value.{null, array, items_of};
+ghost use Rattle.jv_data.specs.Value.{null, array, items_of};
 ghost use Rattle.jv_data.specs.View.{view};
 ghost use Rattle.jq_starts.specs.Starts.{HasStarted, HasStartedAtMost};
 ghost use Rattle.jq_state.specs.Inputs.{inputs_of, fault_ending};

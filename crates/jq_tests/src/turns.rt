@@ -1,10 +1,10 @@
 // The first answers of an engine, of runs that end and of runs that do not.
 use crate::starting::compile_under;
-use jq_backtracking::Ending;
 use jq_engine::{Engine, Turn};
 use jq_starts::Starts;
 use jq_state::inputs::Inputs;
 use jq_state::next::Stop;
+use jq_transitions::Ending;
 use jv_data::{NoMemory, Val};
 use jv_text::to_compact_string;
 use std::alloc::Global;

@@ -4,8 +4,8 @@ use Rattle.std.proofs.lemmas.Bool.{false_from_ne_true}
 use Rattle.std.proofs.lemmas.Map.Views.{list_any-from_Contains, Contains-from_any}
 use Rattle.std.specs.Cmp.{back_equiv, eq_by_cmp_equiv}
 use Rattle.std.specs.List.{Contains}
-use Rattle.jv_meaning.proofs.Order.{compare_total, same_Decides}
-use Rattle.jv_meaning.specs.Value.{Value, Items, item, items_of, values_of}
+use Rattle.jv_data.proofs.shared.Order.{compare_total, same_Decides}
+use Rattle.jv_data.specs.Value.{Value, Items, item, items_of, values_of}
 use Rattle.jv_arith.specs.Arrays.{is_among, left_over}
 
 among : (v : Value) (ws : List Value) → Contains ws v → is_among ws v ≡ true

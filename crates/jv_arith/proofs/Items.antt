@@ -1,8 +1,8 @@
 -- Items of arrays, as lists of their values.
 use Rattle.std.proofs.Common.{◌≡◌, List, [], ◌∷◌, ◌++◌, Bool, not, ◌||◌, filter, map, refl, ap}
 use Rattle.std.specs.List.{list_any}
-use Rattle.jv_meaning.proofs.Items.{values_of-items_of}
-use Rattle.jv_meaning.specs.Value.{Value, items_of}
+use Rattle.jv_data.proofs.shared.Items.{values_of-items_of}
+use Rattle.jv_data.specs.Value.{Value, items_of}
 use Rattle.jv_data.specs.View.{view}
 use Rattle.jv_data.specs.declared.values.Val.{Val}
 use Rattle.jv_arith.specs.Arrays.{joined, left_over, is_among}

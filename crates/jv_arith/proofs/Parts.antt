@@ -9,9 +9,9 @@ use Rattle.std.specs.Bool.{nat_eq}
 use Rattle.std.specs.List.{starts_with}
 use Rattle.std.specs.Str.{chars, IsUtf8, IsCharBoundary}
 use Rattle.std.specs.Str.Pattern.{FindsText, LacksTextAt, SplitsAroundMatch}
-use Rattle.jv_meaning.proofs.shared.Texts.{bytes_around}
+use Rattle.jv_data.proofs.shared.Texts.{bytes_around}
 use Rattle.jv_arith.specs.Strings.{parts_after, with_first, split_of, single}
-use Rattle.jv_meaning.specs.Value.{Value, string}
+use Rattle.jv_data.specs.Value.{Value, string}
 use lib.Utf8.{encode, encodes}
 
 pub data IsBool (b : Bool) : Type 0 where

@@ -2,8 +2,8 @@
 use Rattle.std.proofs.Common.{◌≡◌, ◌∙◌, ◌≢◌, ℕ, List, Ordering, Less, Equal, Greater, refl, sym, ap}
 use Rattle.std.proofs.lemmas.Cmp.{nat_list_cmp_total, alike_right}
 use Rattle.std.specs.Ordering.{ordering_reverse}
-use Rattle.jv_meaning.specs.Members.{put}
-use Rattle.jv_meaning.specs.Value.{Value, Members, no_members, member, text_cmp}
+use Rattle.jv_data.specs.Members.{put}
+use Rattle.jv_data.specs.Value.{Value, Members, no_members, member, text_cmp}
 
 -- the reverse order
 back : (j k : List ℕ) (o : Ordering) → text_cmp j k ≡ o → text_cmp k j ≡ ordering_reverse o

@@ -2,10 +2,10 @@
 use Rattle.std.proofs.Common.{◌≡◌, ◌≢◌, ◌∙◌, ℕ, List, Ordering, Less, Equal, Greater, cond, Option, Some, option_map, refl, sym, ap}
 use Rattle.std.proofs.lemmas.Cmp.{nat_list_cmp_total, tied_itself}
 use Rattle.std.specs.Ordering.{is_eq}
-use Rattle.jv_meaning.proofs.Keyed.{found_put, others_put, put_ordered}
-use Rattle.jv_meaning.proofs.Order.{tied_text}
-use Rattle.jv_meaning.specs.Members.{IsInOrder, member_at, member_or_null, put}
-use Rattle.jv_meaning.specs.Value.{Value, Members, no_members, member, text_cmp}
+use Rattle.jv_data.proofs.shared.Keyed.{found_put, others_put, put_ordered}
+use Rattle.jv_data.proofs.shared.Order.{tied_text}
+use Rattle.jv_data.specs.Members.{IsInOrder, member_at, member_or_null, put}
+use Rattle.jv_data.specs.Value.{Value, Members, no_members, member, text_cmp}
 use Rattle.jv_arith.specs.Objects.{union, deep_union, united}
 use Rattle.jv_arith.specs.laws.Unions.{right_or_left}
 

@@ -2,9 +2,9 @@
 use Rattle.std.proofs.Common.{◌≡◌, ◌∙◌, ◌≢◌, ℕ, List, Less, Equal, Greater, unwrap_or, refl, sym, ap}
 use Rattle.std.proofs.lemmas.Cmp.{nat_list_cmp_total, tied_itself}
 use Rattle.std.specs.Ordering.{ordering_reverse}
-use Rattle.jv_meaning.proofs.Keyed.{others_put}
-use Rattle.jv_meaning.specs.Members.{member_at, member_or_null, put, IsBefore, IsInOrder}
-use Rattle.jv_meaning.specs.Value.{Value, null, Members, no_members, member, text_cmp}
+use Rattle.jv_data.proofs.shared.Keyed.{others_put}
+use Rattle.jv_data.specs.Members.{member_at, member_or_null, put, IsBefore, IsInOrder}
+use Rattle.jv_data.specs.Value.{Value, null, Members, no_members, member, text_cmp}
 use Rattle.jv_arith.proofs.Puts.{put_swap}
 use Rattle.jv_arith.specs.Objects.{union, deep_union, united}
 use Rattle.jv_arith.specs.private.Uniting.{unite_all}

@@ -1,6 +1,6 @@
 -- Unions that wait for one another.
 use Rattle.std.proofs.Common.{◌≡◌, List, [], ◌∷◌, ◌++◌, refl, ap}
-use Rattle.jv_meaning.specs.Value.{Members}
+use Rattle.jv_data.specs.Value.{Members}
 use Rattle.jv_arith.specs.private.Uniting.{after}
 use Rattle.jv_arith.specs.declared.objects.Open.{Open}
 

@@ -2,7 +2,7 @@
 -- error.
 use Rattle.std.specs.Prelude.{◌++◌, ◌+ℤ◌, ◌-ℤ◌, ◌*ℤ◌, neg_ℤ, map, Result, Ok}
 use Rattle.jv_data.specs.Fails.{raised}
-use Rattle.jv_meaning.specs.Value.{Value, null, number, string, array, object, items_of}
+use Rattle.jv_data.specs.Value.{Value, null, number, string, array, object, items_of}
 use Rattle.jv_arith.specs.Arrays.{joined, left_over}
 use Rattle.jv_arith.specs.Errors.{cannot_be_added, cannot_be_subtracted, cannot_be_multiplied, cannot_be_divided, cannot_be_negated}
 use Rattle.jv_arith.specs.Numbers.{in_range, quotient, remainder}

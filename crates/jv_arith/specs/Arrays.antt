@@ -2,7 +2,7 @@
 use Rattle.std.specs.Prelude.{List, ◌++◌, Bool, not, filter}
 use Rattle.std.specs.List.{list_any}
 use Rattle.std.specs.Ordering.{is_eq}
-use Rattle.jv_meaning.specs.Value.{Value, Items, items_of, values_of, compare}
+use Rattle.jv_data.specs.Value.{Value, Items, items_of, values_of, compare}
 
 abbrev pub joined : Items → Items → Items
 joined vs ws = items_of (values_of vs ++ values_of ws)

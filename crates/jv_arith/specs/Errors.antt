@@ -2,7 +2,7 @@
 use Rattle.std.specs.Prelude.{ℕ, List, ◌++◌, codes}
 use Rattle.jv_data.specs.Fails.{kinds_then}
 use Rattle.jv_data.specs.Kind.{kind_name}
-use Rattle.jv_meaning.specs.Value.{Value}
+use Rattle.jv_data.specs.Value.{Value}
 
 -- two values of kinds that an operator does not accept together; `done` is what cannot be done to them
 unfoldable pub cannot_be : List ℕ → Value → Value → List ℕ

@@ -1,7 +1,7 @@
 -- Arithmetic on whole numbers: computed without bounds; a result that does not fit 64 bits is an error.
 use Rattle.std.specs.Prelude.{◌^◌, ◌==◌, ℤ, pos, negsuc, Bool, cond, nat_lt, int_div, int_rem, unsigned_abs, Result, Ok}
 use Rattle.jv_data.specs.Fails.{raised}
-use Rattle.jv_meaning.specs.Value.{Value, number}
+use Rattle.jv_data.specs.Value.{Value, number}
 use Rattle.jv_arith.specs.Errors.{out_of_range, divisor_is_zero, not_whole}
 
 -- n is from -2^63 to 2^63 - 1; `negsuc n` is -(n + 1)

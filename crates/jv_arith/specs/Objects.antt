@@ -1,6 +1,6 @@
 -- Objects under `+` and `*`.
-use Rattle.jv_meaning.specs.Members.{member_or_null, put}
-use Rattle.jv_meaning.specs.Value.{Value, object, Members, no_members, member}
+use Rattle.jv_data.specs.Members.{member_or_null, put}
+use Rattle.jv_data.specs.Value.{Value, object, Members, no_members, member}
 
 -- the members of both; a key of both has the value of the right
 abbrev pub union : Members → Members → Members

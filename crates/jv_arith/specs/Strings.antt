@@ -2,7 +2,7 @@
 use Rattle.std.specs.Prelude.{ℕ, zero, suc, ◌-◌, ◌*◌, List, [], ◌∷◌, ◌++◌, cond, nat_lt, nat_eq, ℤ, pos, negsuc, length, map, encode_utf8_all, Result, Ok}
 use Rattle.std.specs.List.{starts_with}
 use Rattle.jv_data.specs.Fails.{raised}
-use Rattle.jv_meaning.specs.Value.{Value, null, string}
+use Rattle.jv_data.specs.Value.{Value, null, string}
 use Rattle.jv_arith.specs.Errors.{repeat_too_long}
 
 abbrev pub copies : ℕ → List ℕ → List ℕ

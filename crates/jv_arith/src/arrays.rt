@@ -1,7 +1,7 @@
 // Arrays under `+` and `-`.
 ghost use Rattle.std.specs.Prelude.{◌≡◌, IfOk, OnOk, map};
 ghost use Rattle.jv_data.specs.Held.{values_in};
-ghost use Rattle.jv_meaning.specs.Value.{items_of};
+ghost use Rattle.jv_data.specs.Value.{items_of};
 ghost use Rattle.jv_data.specs.View.{view, items_view};
 ghost use Rattle.jv_arith.specs.Arrays.{joined, is_among, left_over};
 

@@ -2,8 +2,8 @@
 ghost use Rattle.std.specs.Prelude.{◌≡◌, ◌≢◌, ◌++◌, ◌∷◌, ◌<◌, ◌≤ℤ◌, ◌+ℤ◌, ◌*ℤ◌, ℕ, ℤ, pos, List, [], int_div, int_rem, unsigned_abs, option_map};
 ghost use Rattle.std.specs.List.{AllByRecursion, Contains};
 ghost use Rattle.std.specs.Str.Iter.{HasSubslice};
-ghost use Rattle.jv_meaning.specs.Members.{IsInOrder, member_at, member_or_null};
-ghost use Rattle.jv_meaning.specs.Value.{Value, Items, Members, item, no_items, values_of};
+ghost use Rattle.jv_data.specs.Members.{IsInOrder, member_at, member_or_null};
+ghost use Rattle.jv_data.specs.Value.{Value, Items, Members, item, no_items, values_of};
 ghost use Rattle.jv_arith.specs.Arrays.{left_over};
 ghost use Rattle.jv_arith.specs.Objects.{union, deep_union, united};
 ghost use Rattle.jv_arith.specs.laws.Unions.{right_or_left};

@@ -3,7 +3,7 @@ ghost use Rattle.std.specs.Prelude.{◌≡◌, IfOk, OnOk, String};
 ghost use Rattle.std.specs.declared.alloc.Global.{Global};
 ghost use Rattle.std.specs.Str.{chars};
 ghost use Rattle.jv_data.specs.Held.{members_in};
-ghost use Rattle.jv_meaning.specs.Members.{member_or_null};
+ghost use Rattle.jv_data.specs.Members.{member_or_null};
 ghost use Rattle.jv_data.specs.View.{members_view, view};
 ghost use Rattle.jv_arith.specs.Objects.{union, deep_union, united};
 ghost use Rattle.jv_arith.specs.private.Uniting.{IsUnion, after, leads_to, unite_all};

@@ -1,7 +1,7 @@
 // A string, split by another.
 ghost use Rattle.std.specs.Prelude.{◌≡◌, ◌≢◌, IfOk, [], map, zero};
 ghost use Rattle.std.specs.Str.{chars};
-ghost use Rattle.jv_meaning.specs.Value.{array, items_of, string};
+ghost use Rattle.jv_data.specs.Value.{array, items_of, string};
 ghost use Rattle.jv_data.specs.View.{view};
 ghost use Rattle.jv_arith.specs.Strings.{parts_after, single, split_of};
 

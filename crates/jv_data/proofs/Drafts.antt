@@ -16,9 +16,9 @@ use Rattle.jv_data.specs.private.Slots.{values_there, AreNone, AreSome}
 use Rattle.jv_data.specs.View.{view, members_view}
 use Rattle.jv_data.specs.declared.values.Val.{Val}
 use Rattle.jv_data.specs.Names.{IsAt}
-use Rattle.jv_meaning.specs.Members.{IsBefore, put}
-use Rattle.jv_meaning.specs.Text.{text_of}
-use Rattle.jv_meaning.specs.Value.{member, text_cmp}
+use Rattle.jv_data.specs.Members.{IsBefore, put}
+use Rattle.jv_data.specs.Text.{text_of}
+use Rattle.jv_data.specs.Value.{member, text_cmp}
 
 abbrev pub Slots : Type 0
 Slots = List (Option Val)

@@ -4,9 +4,9 @@ use Rattle.std.proofs.lemmas.List.{drop_more}
 use Rattle.std.proofs.lemmas.Slice.Zip.{length-zip, get_or-zip}
 use Rattle.jv_data.proofs.Names.{AreRising, Texts, keys_rise}
 use Rattle.jv_data.proofs.Views.{Entry, in_order}
-use Rattle.jv_meaning.specs.Members.{IsBefore, IsInOrder, put}
-use Rattle.jv_meaning.specs.Text.{text_of}
-use Rattle.jv_meaning.specs.Value.{Value, Members, no_members, member}
+use Rattle.jv_data.specs.Members.{IsBefore, IsInOrder, put}
+use Rattle.jv_data.specs.Text.{text_of}
+use Rattle.jv_data.specs.Value.{Value, Members, no_members, member}
 use Rattle.jv_data.specs.View.{view, members_view}
 use Rattle.jv_data.specs.declared.values.Val.{Val}
 

@@ -3,7 +3,7 @@ use Rattle.std.proofs.Common.{◌≡◌, ◌∙◌, ℕ, List, ◌++◌, true, a
 use Rattle.std.specs.Char.{is_ascii}
 use Rattle.std.specs.List.{list_all}
 use Rattle.std.specs.Str.{chars}
-use Rattle.jv_meaning.proofs.shared.Ascii.{ascii_chars, both_ascii}
+use Rattle.jv_data.proofs.shared.Ascii.{ascii_chars, both_ascii}
 
 abbrev IsPlain : List ℕ → Type 0
 IsPlain bs = list_all is_ascii bs ≡ true

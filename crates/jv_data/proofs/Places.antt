@@ -9,9 +9,9 @@ use Rattle.std.proofs.lemmas.Str.{IsUtf8-string_bytes}
 use Rattle.std.specs.Str.{chars, IsUtf8}
 use Rattle.jv_data.proofs.Utf8.{chars-cmp, utf8-cmp}
 use Rattle.jv_data.proofs.Views.{Entry}
-use Rattle.jv_meaning.specs.Members.{member_at, put, without}
-use Rattle.jv_meaning.specs.Value.{Value, text_cmp}
-use Rattle.jv_meaning.specs.Text.{text_of}
+use Rattle.jv_data.specs.Members.{member_at, put, without}
+use Rattle.jv_data.specs.Value.{Value, text_cmp}
+use Rattle.jv_data.specs.Text.{text_of}
 use Rattle.jv_data.specs.View.{view, members_view}
 use Rattle.jv_data.specs.declared.values.Val.{Val}
 

@@ -5,8 +5,8 @@ use Rattle.std.specs.List.Sorted.{IsStrictlySortedBy}
 use Rattle.std.specs.Map.{keys_of}
 use Rattle.std.specs.Ordering.{ordering_then}
 use Rattle.jv_data.proofs.Utf8.{chars-cmp}
-use Rattle.jv_meaning.specs.Members.{IsBefore, IsInOrder}
-use Rattle.jv_meaning.specs.Text.{text_of}
+use Rattle.jv_data.specs.Members.{IsBefore, IsInOrder}
+use Rattle.jv_data.specs.Text.{text_of}
 use Rattle.jv_data.specs.View.{members_view}
 use Rattle.jv_data.specs.declared.values.Val.{Val}
 

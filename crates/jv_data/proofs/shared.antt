@@ -1,5 +1,11 @@
+pub mod Results
+pub mod Ascii
+pub mod Texts
+pub mod Order
+pub mod Items
+pub mod Keyed
 pub mod Lists
 pub mod Views
 pub mod Levels
-pub mod Texts
+pub mod Encodings
 pub mod Depths

@@ -11,7 +11,7 @@ use Rattle.jv_data.specs.declared.containers.drafts.Place.TheVariants as place
 use Rattle.jv_data.specs.declared.containers.slots.Slots.{Slots}
 use Rattle.jv_data.specs.declared.values.Val.{Val}
 use Rattle.jv_data.specs.Names.{IsAt}
-use Rattle.jv_meaning.specs.Value.{Members, no_members}
+use Rattle.jv_data.specs.Value.{Members, no_members}
 
 -- the names that have a value, with their values
 abbrev pub present : {X : Type 0} → List (String Global) → List (Option X) → List (String Global × X)

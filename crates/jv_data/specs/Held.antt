@@ -1,7 +1,7 @@
 -- The contents of an array or an object of values.
 use Rattle.std.specs.Prelude.{List, map}
 use Rattle.jv_data.specs.Shared.{items_in}
-use Rattle.jv_meaning.specs.Value.{Value, null, boolean, number, string, array, object, Members, no_members}
+use Rattle.jv_data.specs.Value.{Value, null, boolean, number, string, array, object, Members, no_members}
 use Rattle.jv_data.specs.View.{view}
 use Rattle.jv_data.specs.declared.values.Val.{Val}
 use Rattle.jv_data.specs.declared.values.Val as val

@@ -1,6 +1,6 @@
 -- The kind of a value, and its name (manual of jq 1.7, "type").
 use Rattle.std.specs.Prelude.{ℕ, List, codes}
-use Rattle.jv_meaning.specs.Value.{Value, null, boolean, number, string, array, object}
+use Rattle.jv_data.specs.Value.{Value, null, boolean, number, string, array, object}
 use Rattle.jv_data.specs.declared.kinds.Kind.{Kind}
 use Rattle.jv_data.specs.declared.kinds.Kind.TheVariants.{Null, Boolean, Number, String, Array, Object}
 

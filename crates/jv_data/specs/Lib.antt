@@ -1,3 +1,6 @@
+pub mod Value
+pub mod Members
+pub mod Text
 pub mod Kind
 pub mod Shared
 pub mod View

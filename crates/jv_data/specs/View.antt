@@ -2,8 +2,8 @@
 use Rattle.std.specs.Prelude.{List, [], ◌∷◌, map, String}
 use Rattle.std.specs.declared.alloc.Global.{Global}
 use Rattle.jv_data.specs.Shared.{text_in, items_in, entries_in}
-use Rattle.jv_meaning.specs.Text.{text_of}
-use Rattle.jv_meaning.specs.Value.{Value, null, boolean, number, string, array, object, Items, Members, no_members, member, items_of}
+use Rattle.jv_data.specs.Text.{text_of}
+use Rattle.jv_data.specs.Value.{Value, null, boolean, number, string, array, object, Items, Members, no_members, member, items_of}
 use Rattle.jv_data.specs.declared.values.Val.{Val, fold-Val}
 use Rattle.jv_data.specs.declared.values.Val.TheOpen.{Val-F}
 

@@ -2,3 +2,4 @@
 pub mod Pairs
 pub mod Names
 pub mod Slots
+pub mod Order

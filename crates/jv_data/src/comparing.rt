@@ -1,10 +1,9 @@
-// The ordering traits of std for values, which sorting and sets need. Their laws are proved in
-// `jv_meaning/proofs/Order.antt`.
+// The ordering traits of std for values, which sorting and sets need. Their laws are proved in `specs/private/Order.antt`.
 ghost use Rattle.std.specs.Prelude.{Some, refl};
 ghost use Rattle.std.specs.Cmp.{on_total, eq_by_cmp_equiv, partial_order_from_total, partial_equiv_from_equiv};
 ghost use Rattle.std.specs.Ordering.{is_eq};
-ghost use Rattle.jv_meaning.proofs.Order.{compare_total};
-ghost use Rattle.jv_meaning.specs.Value.{compare};
+ghost use Rattle.jv_data.specs.private.Order.{compare_total};
+ghost use Rattle.jv_data.specs.Value.{compare};
 ghost use Rattle.jv_data.specs.View.{view};
 
 use crate::{Val, order, same};

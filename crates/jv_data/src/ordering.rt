@@ -2,7 +2,7 @@
 ghost use Rattle.std.specs.Prelude.{◌≡◌, ◌↔◌, IfSome, IsTrue};
 ghost use Rattle.std.specs.Cmp.Lexicographic.{slice_cmp};
 ghost use Rattle.jv_data.specs.Held.{members_in};
-ghost use Rattle.jv_meaning.specs.Value.{rank, compare, compare_items, compare_members, keys, text_cmp};
+ghost use Rattle.jv_data.specs.Value.{rank, compare, compare_items, compare_members, keys, text_cmp};
 ghost use Rattle.jv_data.specs.View.{view, items_view};
 ghost use Rattle.jv_data.specs.private.Pairs.{parts_order};
 

@@ -1,7 +1,7 @@
 // Two containers that are compared part by part. What is open is in a list, so that depth takes no stack.
 ghost use Rattle.std.specs.Prelude.{◌≡◌, IfSome, MatchResult, String};
 ghost use Rattle.std.specs.declared.alloc.Global.{Global};
-ghost use Rattle.jv_meaning.specs.Value.{compare, compare_items, compare_members};
+ghost use Rattle.jv_data.specs.Value.{compare, compare_items, compare_members};
 ghost use Rattle.jv_data.specs.View.{view, items_view, members_view};
 ghost use Rattle.jv_data.specs.private.Pairs.{parts_order, told_order};
 

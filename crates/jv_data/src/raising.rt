@@ -4,8 +4,8 @@ ghost use Rattle.std.specs.Char.{is_ascii};
 ghost use Rattle.std.specs.List.{list_all};
 ghost use Rattle.jv_data.specs.Fails.{FailsAs, raised, raised_kind, raised_kinds};
 ghost use Rattle.jv_data.specs.Kind.{kind_name};
-ghost use Rattle.jv_meaning.specs.Value.{Value, string};
-ghost use Rattle.jv_meaning.specs.Text.{text_of};
+ghost use Rattle.jv_data.specs.Value.{Value, string};
+ghost use Rattle.jv_data.specs.Text.{text_of};
 ghost use Rattle.jv_data.specs.View.{view};
 
 use crate::failures::Fail;

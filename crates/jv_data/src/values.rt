@@ -6,8 +6,8 @@ ghost use Rattle.std.specs.Str.{chars};
 ghost use Rattle.jv_data.specs.Held.{values_in, members_in};
 ghost use Rattle.jv_data.specs.Kind.{kind_of, kind_name};
 ghost use Rattle.jv_data.specs.Shared.{text_in};
-ghost use Rattle.jv_meaning.specs.Value.{string, array, object, items_of};
-ghost use Rattle.jv_meaning.specs.Text.{text_of};
+ghost use Rattle.jv_data.specs.Value.{string, array, object, items_of};
+ghost use Rattle.jv_data.specs.Text.{text_of};
 ghost use Rattle.jv_data.specs.View.{view};
 ghost use Rattle.jv_data.specs.declared.kinds.Kind.TheVariants as kind;
 

@@ -9,8 +9,8 @@ use Rattle.std.specs.Ordering.{ordering_reverse}
 use Rattle.std.specs.Prelude.{option_and_then}
 use Rattle.std.specs.Str.{chars}
 use Rattle.serde_json.specs.Data as json
-use Rattle.jv_meaning.specs.Value.{Value, Items, no_items, item, Members, no_members, member, items_of}
-use Rattle.jv_meaning.specs.Text.{text_of}
+use Rattle.jv_data.specs.Value.{Value, Items, no_items, item, Members, no_members, member, items_of}
+use Rattle.jv_data.specs.Text.{text_of}
 use Rattle.jv_data.specs.View.{view, members_view}
 use Rattle.jv_data.specs.declared.values.Val.{Val}
 use Rattle.jv_text.specs.Json.{value_of, items_of as read_items, members_of as read_members}

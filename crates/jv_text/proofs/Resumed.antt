@@ -6,7 +6,7 @@ use Rattle.json.specs.Layout.{Last, nothing, bracket, name, value, is_value, ste
 use Rattle.json.specs.Print.{ends_value, print, print_from}
 use Rattle.json.specs.Token.{Token, begin_array, key, null}
 use Rattle.json.proofs.Printed.Tokens.{print_from-append, ends_push}
-use Rattle.jv_meaning.specs.Value.{Value as Data}
+use Rattle.jv_data.specs.Value.{Value as Data}
 use Rattle.jv_text.specs.Printed.{compact, laid_out, pretty as pretty_text, tokens_of}
 use Rattle.jv_text.specs.declared.nested.Open.{Open}
 use Rattle.jv_text.specs.declared.printing.Style.{Style}

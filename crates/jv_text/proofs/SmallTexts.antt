@@ -14,9 +14,9 @@ use Rattle.json.specs.Lex.{token, between, in_word, lex, punctuate, tokens}
 use Rattle.json.specs.Token.{number, boolean, null}
 use Rattle.json.specs.Word.{after_digits, after_minus, after_whole, after_number, word}
 use Rattle.json.proofs.OnLiterals.{json_on_literals}
-use Rattle.jv_meaning.proofs.shared.Ascii.{ascii_utf8}
-use Rattle.jv_meaning.specs.Value.{Value}
-use Rattle.jv_meaning.specs.Value as values
+use Rattle.jv_data.proofs.shared.Ascii.{ascii_utf8}
+use Rattle.jv_data.specs.Value.{Value}
+use Rattle.jv_data.specs.Value as values
 use Rattle.jv_text.specs.private.PlainTokens.{IsShortNumber, IsSmallText}
 use Rattle.jv_text.specs.private.Runs.{AreShort, IsShort}
 use Rattle.jv_number.specs.laws.Numbers.{TestIsTheGrammar, ValueSolves}

@@ -9,8 +9,8 @@ use Rattle.jv_data.proofs.shared.Levels.{view-Table, view-Text}
 use Rattle.jv_data.proofs.shared.Views.{bytes_back}
 use Rattle.jv_data.specs.Held.{members_in}
 use Rattle.jv_data.specs.Shared.{bytes_in}
-use Rattle.jv_meaning.specs.Value.{Value}
-use Rattle.jv_meaning.specs.Text.{text_of}
+use Rattle.jv_data.specs.Value.{Value}
+use Rattle.jv_data.specs.Text.{text_of}
 use Rattle.jv_data.specs.View.{view}
 use Rattle.jv_data.specs.declared.containers.objects.Object.{Object}
 use Rattle.jv_data.specs.declared.containers.texts.SharedText.{SharedText}

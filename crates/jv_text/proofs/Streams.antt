@@ -4,7 +4,7 @@ use Rattle.jv_cut.specs.Cut as cut
 use Rattle.jv_cut.specs.Finds.{IsFirst, NoneLeft, IsFault}
 use Rattle.jv_cut.specs.Rest.{Rest, cut_of, cut_with, without, MayFollow, SameTexts}
 use Rattle.jv_cut.specs.declared.splitting.CutFault.{CutFault}
-use Rattle.jv_meaning.specs.Value.{Value}
+use Rattle.jv_data.specs.Value.{Value}
 use Rattle.jv_text.specs.Reading.{reading, fault_at, FaultIs}
 use Rattle.jv_text.specs.Stream.{clean, open_text, fault, after_text, values_of, stream, after_values, left, Stands}
 use Rattle.jv_text.specs.Cutting.{AllGiven, EndsIn, IsMet}

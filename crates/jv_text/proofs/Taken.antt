@@ -13,9 +13,9 @@ use Rattle.serde_json.specs.Data.{Data, Num, put}
 use Rattle.serde_json.specs.Find.{as_i64}
 use Rattle.serde_json.specs.Read.{of_json, of_items, of_members, number_of, converted}
 use Rattle.jv_text.proofs.Turns.{converted-array, converted-object, item_read, items_over, member_read, members_over, none_before, whole_read}
-use Rattle.jv_meaning.specs.Members.{put as put_member}
-use Rattle.jv_meaning.specs.Value.{Value, null, boolean, number, string, array, object, Items, Members, no_members, member, text_cmp}
-use Rattle.jv_data.proofs.shared.Texts.{utf8-cmp}
+use Rattle.jv_data.specs.Members.{put as put_member}
+use Rattle.jv_data.specs.Value.{Value, null, boolean, number, string, array, object, Items, Members, no_members, member, text_cmp}
+use Rattle.jv_data.proofs.shared.Encodings.{utf8-cmp}
 use Rattle.jv_data.specs.View.{view, items_view}
 use Rattle.jv_data.specs.declared.values.Val.{Val}
 use Rattle.jv_text.specs.Json.{value_of, items_of as read_items, members_of as read_members}

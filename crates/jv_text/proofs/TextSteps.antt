@@ -2,7 +2,7 @@
 use Rattle.std.proofs.Common.{◌≡◌, ◌∙◌, ℕ, List, ◌++◌, ap, String, Global, string_bytes}
 use Rattle.std.proofs.lemmas.Str.{chars-append, IsUtf8-string_bytes}
 use Rattle.std.specs.Str.{chars}
-use Rattle.jv_meaning.specs.Text.{text_of}
+use Rattle.jv_data.specs.Text.{text_of}
 
 -- a text was written
 pub text_written : (s t : String Global) (bs : List ℕ) → string_bytes t ≡ string_bytes s ++ bs → text_of t ≡ text_of s ++ chars bs

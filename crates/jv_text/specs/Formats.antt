@@ -4,8 +4,8 @@ use Rattle.std.specs.Fmt.{digit_glyph}
 use Rattle.std.specs.declared.alloc.Global.{Global}
 use Rattle.base64.specs.Rfc4648.{encode}
 use Rattle.jv_data.specs.Fails.{FailsAs, raised_kind}
-use Rattle.jv_meaning.specs.Value.{Value, null, string, array, object, Items, no_items, item}
-use Rattle.jv_meaning.specs.Text.{text_of}
+use Rattle.jv_data.specs.Value.{Value, null, string, array, object, Items, no_items, item}
+use Rattle.jv_data.specs.Text.{text_of}
 use Rattle.jv_data.specs.declared.failures.Fail.{Fail}
 use Rattle.jv_text.specs.Printed.{json_text, text_of_value}
 use Rattle.jv_text.specs.declared.formats.names.Format.{Format}

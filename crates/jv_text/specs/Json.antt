@@ -3,7 +3,7 @@ use Rattle.std.specs.Prelude.{Option, Some, option_map, option_and_then, encode_
 use Rattle.std.specs.Str.{chars}
 use Rattle.serde_json.specs.Data as json
 use Rattle.serde_json.specs.Find.{as_i64, of_integer}
-use Rattle.jv_meaning.specs.Value.{Value, null, boolean, number, string, array, object, Items, no_items, item, Members, no_members, member}
+use Rattle.jv_data.specs.Value.{Value, null, boolean, number, string, array, object, Items, no_items, item, Members, no_members, member}
 
 -- each number must be a whole number of 64 bits
 abbrev mutual

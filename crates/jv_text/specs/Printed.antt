@@ -5,7 +5,7 @@ use Rattle.json.specs.Layout as layout
 use Rattle.json.specs.Token.{Token}
 use Rattle.json.specs.Tree.{json_tokens}
 use Rattle.serde_json.specs.Written.{compact_text, outline}
-use Rattle.jv_meaning.specs.Value.{Value, null, boolean, number, string, array, object}
+use Rattle.jv_data.specs.Value.{Value, null, boolean, number, string, array, object}
 use Rattle.jv_text.specs.Json.{data_of}
 use Rattle.jv_text.specs.declared.printing.Style.{Style}
 

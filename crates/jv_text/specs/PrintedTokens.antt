@@ -3,7 +3,7 @@ use Rattle.std.specs.Prelude.{List, [], ◌∷◌, ◌++◌}
 use Rattle.json.specs.Token.{Token}
 use Rattle.json.specs.Tree.{items_tokens, members_tokens}
 use Rattle.serde_json.specs.Written.{items_outline, members_outline}
-use Rattle.jv_meaning.specs.Value.{Items, Members}
+use Rattle.jv_data.specs.Value.{Items, Members}
 use Rattle.jv_data.specs.View.{view, items_view, members_view}
 use Rattle.jv_text.specs.Json.{items_data, members_data}
 use Rattle.jv_text.specs.Printed.{tokens_of}

@@ -4,7 +4,7 @@ use Rattle.jv_cut.specs.Cut.{Cut, CutEnd, clean, open_text, fault}
 use Rattle.jv_cut.specs.declared.nesting.Quote.TheVariants.{Outside}
 use Rattle.jv_cut.specs.declared.splitting.CutFault.{CutFault}
 use Rattle.jv_cut.specs.declared.splitting.CutFault.TheVariants as cut
-use Rattle.jv_meaning.specs.Value.{Value}
+use Rattle.jv_data.specs.Value.{Value}
 use Rattle.jv_data.specs.View.{view}
 use Rattle.jv_data.specs.declared.values.Val.{Val}
 use Rattle.jv_text.specs.Numbers.{whole_numbers}

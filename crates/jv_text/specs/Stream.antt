@@ -2,7 +2,7 @@
 use Rattle.std.specs.Prelude.{◌≡◌, ℕ, List, [], ◌∷◌, ◌++◌, Bool, Option, Some, None, Result, Ok, Err}
 use Rattle.jv_cut.specs.Cut as cut
 use Rattle.jv_cut.specs.Rest.{Rest, cut_with, MayFollow}
-use Rattle.jv_meaning.specs.Value.{Value}
+use Rattle.jv_data.specs.Value.{Value}
 use Rattle.jv_text.specs.Reading.{reading, fault_at}
 use Rattle.jv_text.specs.declared.faults.Fault.{Fault}
 

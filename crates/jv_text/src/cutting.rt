@@ -2,7 +2,7 @@
 ghost use Rattle.std.specs.Prelude.{◌≡◌, ◌≤◌, ◌<◌, ◌+◌, ◌^◌, ◌++◌, ℕ, List, [], length, true, false, Some, None, Err, IfOk, IfNone, IsOk, OnOk, OnErr};
 ghost use Rattle.jv_cut.specs.Finds.{IsFirst};
 ghost use Rattle.jv_cut.specs.Text.{max_text};
-ghost use Rattle.jv_meaning.specs.Value.{Value};
+ghost use Rattle.jv_data.specs.Value.{Value};
 ghost use Rattle.jv_text.specs.Cutting.{HasGiven, is_finished};
 ghost use Rattle.jv_text.specs.private.Met.{met_by};
 ghost use Rattle.jv_text.specs.Stream.{stream};

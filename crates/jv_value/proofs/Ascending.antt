@@ -3,10 +3,10 @@ use Rattle.std.proofs.Common.{◌≡◌, ◌∙◌, List, ℕ, Bool, true, false
 use Rattle.std.proofs.lemmas.Cmp.{nat_list_cmp_total}
 use Rattle.std.specs.Option.{option_map_or}
 use Rattle.std.specs.Ordering.{is_eq, ordering_reverse}
-use Rattle.jv_meaning.proofs.Keyed.{before_through, absent}
-use Rattle.jv_meaning.proofs.Order.{is_less, is_equal, is_greater, compared, tied_text}
-use Rattle.jv_meaning.specs.Members.{IsBefore, IsInOrder, member_at, put, without}
-use Rattle.jv_meaning.specs.Value.{Value, Members, no_members, member, text_cmp}
+use Rattle.jv_data.proofs.shared.Keyed.{before_through, absent}
+use Rattle.jv_data.proofs.shared.Order.{is_less, is_equal, is_greater, compared, tied_text}
+use Rattle.jv_data.specs.Members.{IsBefore, IsInOrder, member_at, put, without}
+use Rattle.jv_data.specs.Value.{Value, Members, no_members, member, text_cmp}
 use Rattle.jv_value.specs.private.ItemGroups.{apart}
 use Rattle.jv_value.specs.DeletePaths.{following, names_itself, without_locations, members_left}
 use Rattle.jv_value.specs.Locations.{key, Location}

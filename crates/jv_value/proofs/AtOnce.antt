@@ -4,9 +4,9 @@ use Rattle.std.specs.Cmp.Lexicographic.{slice_cmp}
 use Rattle.std.specs.List.{list_any}
 use Rattle.std.specs.Option.{option_map_or}
 use Rattle.std.specs.Ordering.{is_eq, is_gt}
-use Rattle.jv_meaning.proofs.Order.{equal_from, tied_text}
-use Rattle.jv_meaning.specs.Members.{member_at}
-use Rattle.jv_meaning.specs.Value.{Value, null, number, string, array, object, Items, no_items, item, Members, no_members, member, values_of, compare, text_cmp}
+use Rattle.jv_data.proofs.shared.Order.{equal_from, tied_text}
+use Rattle.jv_data.specs.Members.{member_at}
+use Rattle.jv_data.specs.Value.{Value, null, number, string, array, object, Items, no_items, item, Members, no_members, member, values_of, compare, text_cmp}
 use Rattle.jv_value.specs.DeletePaths.{all_locations, following, in_order, items_left, members_left, names_itself, put_in_order, removed, without_locations}
 use Rattle.jv_value.specs.Locations.{Location, at, key, locations_of}
 use Rattle.jv_value.specs.Index.{place_of}

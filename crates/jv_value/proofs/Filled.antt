@@ -3,7 +3,7 @@ use Rattle.std.proofs.Common.{◌≡◌, ◌∙◌, ◌<◌, ◌≤◌, ◌+◌,
 use Rattle.std.specs.List.{slice_get}
 use Rattle.std.proofs.lemmas.List.{append-nil, length-append, length-set}
 use Rattle.std.proofs.lemmas.Bool.Decides.{nat_tests}
-use Rattle.jv_meaning.specs.Value.{Value, null, string, array, items_of}
+use Rattle.jv_data.specs.Value.{Value, null, string, array, items_of}
 use Rattle.jv_value.specs.ErrorTexts.{index_too_large, index_before_start}
 use Rattle.jv_value.specs.Index.{item_at, place_of}
 use Rattle.jv_value.specs.SetPath.{filled, put_item, greatest_index}

@@ -2,8 +2,8 @@
 use Rattle.std.proofs.Common.{◌≡◌, ◌∙◌, ◌+◌, ℕ, List, [], ◌∷◌, ◌++◌, Bool, true, false, if◌then◌else◌, ap, sym, refl}
 use Rattle.std.proofs.lemmas.Cmp.{nat_list_cmp_total, tied_itself}
 use Rattle.std.specs.Ordering.{is_eq}
-use Rattle.jv_meaning.proofs.Order.{equal_from, tied_text}
-use Rattle.jv_meaning.specs.Value.{Value, null, boolean, number, string, array, object, items_of, Items, no_items, item, Members, no_members, member, text_cmp}
+use Rattle.jv_data.proofs.shared.Order.{equal_from, tied_text}
+use Rattle.jv_data.specs.Value.{Value, null, boolean, number, string, array, object, items_of, Items, no_items, item, Members, no_members, member, text_cmp}
 use Rattle.jv_value.specs.private.ItemGroups.{grouped_from, groups_left, apart, begins_with}
 use Rattle.jv_value.specs.DeletePaths.{same_selector, following, names_itself, without_locations, items_left, members_left}
 use Rattle.jv_value.specs.Locations.{Selector, at, key, Location}

@@ -1,6 +1,6 @@
 -- A part that is put back into several frames.
 use Rattle.std.proofs.Common.{◌≡◌, ◌∙◌, List, [], ◌∷◌, ◌++◌, Result, Ok, Err, ap, sym, refl}
-use Rattle.jv_meaning.specs.Value.{Value}
+use Rattle.jv_data.specs.Value.{Value}
 use Rattle.jv_value.specs.Results.{and_then}
 use Rattle.jv_value.specs.SetPath.{put_at, setpath_of}
 use Rattle.jv_value.specs.private.Frames.{TakesPart, put_into, put_into_all}

@@ -7,10 +7,10 @@ use Rattle.std.specs.BTreeMap.{get, Updates, UpdatesBy}
 use Rattle.std.specs.Cmp.Lexicographic.{slice_cmp}
 use Rattle.std.specs.Map.{lookup}
 use Rattle.std.specs.Ordering.{is_eq}
-use Rattle.jv_meaning.proofs.Order.{compared, equal_from, is_equal, is_greater, is_less, tied_text}
-use Rattle.jv_meaning.specs.Members.{put}
-use Rattle.jv_meaning.specs.Value.{Value, object, Members, text_cmp}
-use Rattle.jv_meaning.specs.Text.{text_of}
+use Rattle.jv_data.proofs.shared.Order.{compared, equal_from, is_equal, is_greater, is_less, tied_text}
+use Rattle.jv_data.specs.Members.{put}
+use Rattle.jv_data.specs.Value.{Value, object, Members, text_cmp}
+use Rattle.jv_data.specs.Text.{text_of}
 use Rattle.jv_data.proofs.shared.Levels.{members_held}
 use Rattle.jv_data.specs.Held.{members_in}
 use Rattle.jv_data.specs.Shared.{entries_in}

@@ -1,7 +1,7 @@
 -- The value at an index of a list or at a name.
 use Rattle.std.proofs.Common.{◌≡◌, Option, Some, None, option_map, unwrap_or, Bor, codes, refl, sym}
 use Rattle.std.specs.Str.{chars}
-use Rattle.jv_meaning.specs.Value.{Value, null}
+use Rattle.jv_data.specs.Value.{Value, null}
 use Rattle.jv_data.specs.View.{view}
 use Rattle.jv_data.specs.declared.values.Val.{Val}
 

@@ -7,8 +7,8 @@ use Rattle.std.specs.Cmp.{IsTotalOrder}
 use Rattle.std.specs.Cmp.Lexicographic.{slice_cmp}
 use Rattle.std.specs.List.Sorted.{IsPermutation}
 use Rattle.std.specs.Ordering.{is_eq, is_gt, is_lt, ordering_reverse, ordering_then}
-use Rattle.jv_meaning.proofs.Order.{is_less, is_equal, is_greater, compared, ties, compare_total, tied}
-use Rattle.jv_meaning.specs.Value.{Value, compare}
+use Rattle.jv_data.proofs.shared.Order.{is_less, is_equal, is_greater, compared, ties, compare_total, tied}
+use Rattle.jv_data.specs.Value.{Value, compare}
 use Rattle.jv_data.specs.View.{view}
 use Rattle.jv_data.specs.declared.values.Val.{Val}
 use Rattle.jv_value.specs.DeletePaths.{in_order, put_in_order}

@@ -1,6 +1,6 @@
 -- What is left of containers in one another.
 use Rattle.std.proofs.Common.{◌≡◌, ◌∙◌, List, [], ◌∷◌, ◌++◌, false, ap, sym, refl, subst, append_assoc}
-use Rattle.jv_meaning.specs.Value.{Value, array, items_of}
+use Rattle.jv_data.specs.Value.{Value, array, items_of}
 use Rattle.jv_data.specs.View.{view}
 use Rattle.jv_value.specs.DeletePaths.{names_itself, without_locations}
 use Rattle.jv_value.specs.private.ItemGroups.{groups_in, groups_left}

@@ -4,10 +4,10 @@ use Rattle.std.specs.List.{slice_get}
 use Rattle.std.proofs.lemmas.Bool.Decides.{nat_tests}
 use Rattle.std.proofs.lemmas.List.{length-append, length-set}
 use Rattle.std.proofs.lemmas.Option.{slice_get_past}
-use Rattle.jv_meaning.proofs.Keyed.{found_put, others_put, others_without}
-use Rattle.jv_meaning.proofs.Items.{values_of-items_of}
-use Rattle.jv_meaning.specs.Members.{member_or_null, put, without}
-use Rattle.jv_meaning.specs.Value.{Value, null, number, string, array, object, items_of, values_of, Members, no_members}
+use Rattle.jv_data.proofs.shared.Keyed.{found_put, others_put, others_without}
+use Rattle.jv_data.proofs.shared.Items.{values_of-items_of}
+use Rattle.jv_data.specs.Members.{member_or_null, put, without}
+use Rattle.jv_data.specs.Value.{Value, null, number, string, array, object, items_of, values_of, Members, no_members}
 use Rattle.jv_value.specs.ErrorTexts.{index_too_large, index_before_start}
 use Rattle.jv_value.specs.GetPath.{getpath_of, is_null}
 use Rattle.std.specs.Option.{option_map_or}

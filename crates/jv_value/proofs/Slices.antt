@@ -2,7 +2,7 @@
 use Rattle.std.proofs.Common.{◌≡◌, ◌∙◌, ℕ, ◌-◌, List, map, take, drop, length, slice_range, Some, ap, sym, Ok}
 use Rattle.std.specs.Option.{option_map, ok_or}
 use Rattle.std.proofs.lemmas.List.{length-map, take-map, drop-map}
-use Rattle.jv_meaning.specs.Value.{Value, string, array, items_of}
+use Rattle.jv_data.specs.Value.{Value, string, array, items_of}
 use Rattle.jv_data.specs.View.{view}
 use Rattle.jv_data.specs.declared.values.Val.{Val}
 use Rattle.jv_value.specs.ErrorTexts.{not_slice_bounds}

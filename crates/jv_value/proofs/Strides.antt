@@ -1,9 +1,9 @@
 -- The locations that a path names, key by key.
 use Rattle.std.proofs.Common.{◌≡◌, ◌∙◌, ℕ, ℤ, List, [], ◌∷◌, ◌++◌, length, Option, Some, None, Result, Ok, Err, unwrap_or, slice_range, ap, sym, refl}
 use Rattle.std.specs.Option.{option_map, option_map_or, ok_or}
-use Rattle.jv_meaning.specs.Members.{member_at}
-use Rattle.jv_meaning.specs.Value.{Value, null, number, string, array, object, items_of, values_of, Members}
-use Rattle.jv_meaning.proofs.Items.{values_of-items_of}
+use Rattle.jv_data.specs.Members.{member_at}
+use Rattle.jv_data.specs.Value.{Value, null, number, string, array, object, items_of, values_of, Members}
+use Rattle.jv_data.proofs.shared.Items.{values_of-items_of}
 use Rattle.jv_value.specs.ErrorTexts.{cannot_index, key_name, not_slice_bounds}
 use Rattle.jv_value.specs.Index.{item_at, place_of, start_in, end_in}
 use Rattle.jv_value.specs.Locations.{Location, at, key, locations_of}

@@ -2,8 +2,8 @@
 use Rattle.std.proofs.Common.{◌≡◌, ◌∙◌, ◌≤◌, ◌+◌, ◌-◌, ℕ, ℤ, List, length, map, take, drop, ap, sym, subst, unwrap_or, slice_range, Some, Ok, Err, Vec, Global, arith}
 use Rattle.std.specs.Option.{option_map, option_map_or, ok_or}
 use Rattle.std.proofs.lemmas.List.{drop-take, take-take}
-use Rattle.jv_meaning.proofs.Items.{values_of-items_of}
-use Rattle.jv_meaning.specs.Value.{Value, null, number, string, array, items_of}
+use Rattle.jv_data.proofs.shared.Items.{values_of-items_of}
+use Rattle.jv_data.specs.Value.{Value, null, number, string, array, items_of}
 use Rattle.jv_data.specs.View.{view}
 use Rattle.jv_data.specs.declared.values.Val.{Val}
 use Rattle.jv_value.specs.ErrorTexts.{not_slice_bounds}

@@ -6,10 +6,10 @@ use Rattle.std.proofs.lemmas.Str.{encodes-chars, IsUtf8-string_bytes}
 use Rattle.std.specs.Ordering.{is_eq}
 use Rattle.std.specs.Str.{bytes_eq, chars}
 use lib.Utf8.{encodes}
-use Rattle.jv_meaning.proofs.Order.{equal_from, tied_text}
-use Rattle.jv_meaning.specs.Value.{text_cmp}
-use Rattle.jv_meaning.specs.Text.{text_of}
-use Rattle.jv_meaning.proofs.shared.Texts.{text_is}
+use Rattle.jv_data.proofs.shared.Order.{equal_from, tied_text}
+use Rattle.jv_data.specs.Value.{text_cmp}
+use Rattle.jv_data.specs.Text.{text_of}
+use Rattle.jv_data.proofs.shared.Texts.{text_is}
 use Rattle.jv_value.proofs.Following.{text_itself}
 
 same_bytes : (s t : String Global) → text_of s ≡ text_of t → string_bytes t ≡ string_bytes s

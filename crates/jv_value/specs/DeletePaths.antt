@@ -3,7 +3,7 @@ use Rattle.std.specs.Prelude.{ℕ, ◌+◌, ◌==◌, Bool, true, false, List, [
 use Rattle.std.specs.Cmp.Lexicographic.{slice_cmp}
 use Rattle.std.specs.Ordering.{is_eq, is_gt}
 use Rattle.std.specs.declared.alloc.Global.{Global}
-use Rattle.jv_meaning.specs.Value.{Value, null, array, object, Items, no_items, item, Members, no_members, member, text_cmp, compare}
+use Rattle.jv_data.specs.Value.{Value, null, array, object, Items, no_items, item, Members, no_members, member, text_cmp, compare}
 use Rattle.jv_data.specs.View.{view}
 use Rattle.jv_data.specs.declared.values.Val.{Val}
 use Rattle.jv_value.specs.Locations.{Selector, at, key, Location, locations_of}

@@ -2,7 +2,7 @@
 use Rattle.std.specs.Prelude.{ℕ, List, ◌++◌, codes}
 use Rattle.json.specs.Print.{quoted}
 use Rattle.jv_data.specs.Kind.{kind_name}
-use Rattle.jv_meaning.specs.Value.{Value, string}
+use Rattle.jv_data.specs.Value.{Value, string}
 
 -- how an error names a key: a string by the JSON string that the printer writes for it, any other value by its kind
 abbrev pub key_name : Value → List ℕ

@@ -1,6 +1,6 @@
 -- The value at a path (manual of jq 1.7, "getpath(PATHS)").
 use Rattle.std.specs.Prelude.{List, [], ◌∷◌, Bool, true, false, Result, Ok, if◌then◌else◌}
-use Rattle.jv_meaning.specs.Value.{Value, null}
+use Rattle.jv_data.specs.Value.{Value, null}
 use Rattle.jv_value.specs.Index.{index_of}
 use Rattle.jv_value.specs.Results.{and_then}
 

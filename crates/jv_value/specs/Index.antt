@@ -1,8 +1,8 @@
 -- The part of a value at a key (manual of jq 1.7, "Object Identifier-Index", "Array Index", "Array/String Slice").
 use Rattle.std.specs.Prelude.{ℕ, ℤ, pos, negsuc, ◌+◌, ◌-◌, nat_lt, List, codes, length, slice_get, if◌then◌else◌, Option, Some, None, unwrap_or, Result, Ok, Err}
 use Rattle.std.specs.Option.{option_map_or}
-use Rattle.jv_meaning.specs.Members.{member_or_null}
-use Rattle.jv_meaning.specs.Value.{Value, null, number, string, array, object, values_of, Members, no_members, member}
+use Rattle.jv_data.specs.Members.{member_or_null}
+use Rattle.jv_data.specs.Value.{Value, null, number, string, array, object, values_of, Members, no_members, member}
 use Rattle.jv_value.specs.ErrorTexts.{cannot_index, key_name}
 use Rattle.jv_value.specs.Slice.{slice_of_array, slice_of_string}
 

@@ -2,8 +2,8 @@
 use Rattle.std.specs.Prelude.{ℕ, ◌+◌, ◌-◌, nat_lt, List, [], ◌∷◌, map, length, slice_range, if◌then◌else◌, unwrap_or, Result, Ok, Err}
 use Rattle.std.specs.List.{flat_map, range_with_len}
 use Rattle.std.specs.Option.{option_map_or}
-use Rattle.jv_meaning.specs.Members.{member_at}
-use Rattle.jv_meaning.specs.Value.{Value, null, number, string, array, object, items_of, values_of}
+use Rattle.jv_data.specs.Members.{member_at}
+use Rattle.jv_data.specs.Value.{Value, null, number, string, array, object, items_of, values_of}
 use Rattle.jv_value.specs.ErrorTexts.{cannot_index, key_name, not_slice_bounds}
 use Rattle.jv_value.specs.Index.{item_at, place_of, start_in, end_in}
 use Rattle.jv_value.specs.Results.{map_ok}

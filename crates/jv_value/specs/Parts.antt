@@ -1,6 +1,6 @@
 -- The parts of a value (manual of jq 1.7, "Array/Object Value Iterator").
 use Rattle.std.specs.Prelude.{List, map, Result, Ok, Err}
-use Rattle.jv_meaning.specs.Value.{Value, string, array, object, values_of, entries_of}
+use Rattle.jv_data.specs.Value.{Value, string, array, object, values_of, entries_of}
 use Rattle.jv_value.specs.ErrorTexts.{cannot_iterate}
 
 -- an array's items, and an object's values in the order of their keys

@@ -1,6 +1,6 @@
 -- Calls that may raise, one after another.
 use Rattle.std.specs.Prelude.{Result, Ok, Err}
-use Rattle.jv_meaning.specs.Value.{Value}
+use Rattle.jv_data.specs.Value.{Value}
 
 -- the first call, and then the next one with its result
 abbrev pub and_then : {A B : Type 0} → Result A Value → (A → Result B Value) → Result B Value

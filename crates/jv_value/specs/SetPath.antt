@@ -1,8 +1,8 @@
 -- A value with another at a path (manual of jq 1.7, "setpath(PATHS; VALUE)").
 use Rattle.std.specs.Prelude.{ℕ, ℤ, pos, negsuc, ◌+◌, ◌-◌, nat_lt, List, [], ◌∷◌, ◌++◌, length, take, drop, replicate, slice_set, if◌then◌else◌, option_map, Result, Ok, Err, ok_or}
 use Rattle.std.specs.Option.{option_map_or}
-use Rattle.jv_meaning.specs.Members.{put, without}
-use Rattle.jv_meaning.specs.Value.{Value, null, number, string, array, object, items_of, values_of, no_members}
+use Rattle.jv_data.specs.Members.{put, without}
+use Rattle.jv_data.specs.Value.{Value, null, number, string, array, object, items_of, values_of, no_members}
 use Rattle.jv_value.specs.ErrorTexts.{cannot_index, key_name, not_slice_bounds, index_too_large, index_before_start, slice_needs_array}
 use Rattle.jv_value.specs.Index.{index_of, place_of, start_in, end_in}
 use Rattle.jv_value.specs.Results.{and_then}

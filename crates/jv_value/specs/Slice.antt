@@ -1,6 +1,6 @@
 -- Slices of arrays and strings (manual of jq 1.7, "Array/String Slice").
 use Rattle.std.specs.Prelude.{ℕ, ℤ, pos, negsuc, ◌+◌, ◌-◌, min, max, List, length, slice_range, Option, Some, None, option_map, option_and_then, Result, ok_or}
-use Rattle.jv_meaning.specs.Value.{Value, null, number, string, array, items_of}
+use Rattle.jv_data.specs.Value.{Value, null, number, string, array, items_of}
 use Rattle.jv_value.specs.ErrorTexts.{not_slice_bounds}
 
 -- A bound over n parts: a negative one counts from the end, and the result is clamped to 0 to n.

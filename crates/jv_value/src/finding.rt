@@ -5,7 +5,7 @@ ghost use Rattle.std.specs.Str.{chars};
 ghost use Rattle.jv_data.specs.Fails.{FailsAs, raised};
 ghost use Rattle.jv_data.specs.Held.{members_in};
 ghost use Rattle.jv_data.specs.Shared.{text_in};
-ghost use Rattle.jv_meaning.specs.Value.{Items, array, items_of, number, object, string};
+ghost use Rattle.jv_data.specs.Value.{Items, array, items_of, number, object, string};
 ghost use Rattle.jv_data.specs.View.{view};
 ghost use Rattle.jv_value.specs.ErrorTexts.{cannot_index, key_name};
 ghost use Rattle.jv_value.specs.private.FoundLocations.{FindsLocations};

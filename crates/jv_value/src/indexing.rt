@@ -1,7 +1,7 @@
 // The part of a value at an index.
 ghost use Rattle.std.specs.Prelude.{◌≡◌, ◌<◌, ◌≤◌, option_map, map, IfSome, MatchResult, unwrap_or};
 ghost use Rattle.jv_data.specs.Fails.{AnswersAs};
-ghost use Rattle.jv_meaning.specs.Value.{null};
+ghost use Rattle.jv_data.specs.Value.{null};
 ghost use Rattle.jv_data.specs.Held.{members_in};
 ghost use Rattle.jv_data.specs.View.{view};
 ghost use Rattle.jv_value.specs.Index.{end_in, index_of, item_at, place_of, slice_of, start_in};

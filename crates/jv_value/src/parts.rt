@@ -2,7 +2,7 @@
 ghost use Rattle.std.specs.Prelude.{◌≡◌, IfOk, MatchResult, Ok, map};
 ghost use Rattle.jv_data.specs.Fails.{FailsAs};
 ghost use Rattle.jv_data.specs.Held.{members_in};
-ghost use Rattle.jv_meaning.specs.Value.{entries_of};
+ghost use Rattle.jv_data.specs.Value.{entries_of};
 ghost use Rattle.jv_data.specs.View.{view};
 ghost use Rattle.jv_value.specs.Parts.{parts_of};
 

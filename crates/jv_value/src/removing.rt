@@ -2,7 +2,7 @@
 ghost use Rattle.std.specs.Prelude.{◌≡◌, ◌∷◌, [], IfOk, OnOk, map};
 ghost use Rattle.std.specs.Str.{chars};
 ghost use Rattle.jv_data.specs.Held.{members_in};
-ghost use Rattle.jv_meaning.specs.Value.{Value};
+ghost use Rattle.jv_data.specs.Value.{Value};
 ghost use Rattle.jv_data.specs.View.{view};
 ghost use Rattle.jv_value.specs.private.ItemGroups.{AddsLocation, grouped_from, groups_in};
 ghost use Rattle.jv_value.specs.private.Removals.{GoesOn, GroupsLeave, Leaves, TakesMember, items_with};

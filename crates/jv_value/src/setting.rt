@@ -3,9 +3,9 @@ ghost use Rattle.std.specs.Prelude.{◌≡◌, ◌<◌, ◌+◌, IfErr, IfOk, Ma
 ghost use Rattle.std.specs.Str.{chars};
 ghost use Rattle.jv_data.specs.Fails.{AnswersAs, FailsAs};
 ghost use Rattle.jv_data.specs.Held.{members_in, values_in};
-ghost use Rattle.jv_meaning.specs.Members.{put};
-ghost use Rattle.jv_meaning.specs.Value.{Value, array, items_of, null, number, object, string};
-ghost use Rattle.jv_meaning.specs.Text.{text_of};
+ghost use Rattle.jv_data.specs.Members.{put};
+ghost use Rattle.jv_data.specs.Value.{Value, array, items_of, null, number, object, string};
+ghost use Rattle.jv_data.specs.Text.{text_of};
 ghost use Rattle.jv_data.specs.View.{view};
 ghost use Rattle.jv_value.specs.private.Frames.{TakesOut, put_into, put_into_all};
 ghost use Rattle.jv_value.specs.Index.{item_at, slice_key};

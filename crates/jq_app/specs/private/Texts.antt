@@ -1,6 +1,6 @@
 -- The texts of a session's files.
 use Rattle.std.specs.Prelude.{List, ℕ, Option, true}
-use Rattle.jv_meaning.specs.Value.{Value}
+use Rattle.jv_data.specs.Value.{Value}
 use Rattle.jv_text.specs.Stream.{stream}
 use Rattle.jv_text.specs.declared.faults.Fault.{Fault}
 use Rattle.jq_devices.specs.Reading.{IsWhole}

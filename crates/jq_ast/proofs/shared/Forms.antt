@@ -1,6 +1,6 @@
 -- The definition's tree of each form, by its parts.
 use Rattle.std.proofs.Common.{◌≡◌, ◌∙◌, Bool, List, [], ◌∷◌, map, Vec, String, Global, Box, ap, sym, refl}
-use Rattle.jv_meaning.specs.Text.{text_of}
+use Rattle.jv_data.specs.Text.{text_of}
 use Rattle.jq_tree.specs.Tree as tree
 use Rattle.jq_ast.specs.Leaves.{key_of, operator_of}
 use Rattle.jq_ast.specs.Named.{named, named_as_part, named_as_pattern, name_of, pieces_of, entry_of, named_entry, named_piece, named_member, named_pattern, named_tree}

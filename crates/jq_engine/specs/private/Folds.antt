@@ -1,8 +1,8 @@
 -- What a fold does with an output of its source.
-use Rattle.jv_meaning.specs.Text.{text_of}
-use Rattle.jv_meaning.specs.Value.{Value}
+use Rattle.jv_data.specs.Text.{text_of}
+use Rattle.jv_data.specs.Value.{Value}
 use Rattle.jq_tree.specs.Tree.{whole}
-use Rattle.jq_machine.specs.State.{Scope, Frame, source, fold_step}
+use Rattle.jq_meaning.specs.machine.State.{Scope, Frame, source, fold_step}
 use Rattle.jq_meaning.specs.Runs.{Run}
 use Rattle.jq_state.specs.Links.{scope_in}
 use Rattle.jq_state.specs.Steps.{fold_of}

@@ -1,14 +1,14 @@
 -- Forms of filters by their parts, and the bodies that calls run.
 use Rattle.std.specs.Prelude.{◌≡◌, ℕ, List}
-use Rattle.jv_meaning.specs.Value.{Value}
+use Rattle.jv_data.specs.Value.{Value}
 use Rattle.jq_ast.specs.Named.{named, named_as_pattern}
 use Rattle.jq_ast.specs.declared.tree.Pattern.{Pattern}
 use Rattle.jq_ast.specs.declared.tree.Tree.{Tree}
 use Rattle.jq_tree.specs.Tree as form
 use Rattle.jq_meaning.specs.Env.{Env}
 use Rattle.jq_meaning.specs.Runs.{Run, Item}
-use Rattle.jq_machine.specs.Evaluating.{enter, enter_body}
-use Rattle.jq_machine.specs.State.{Frame, ForkPoint, state, evaluate}
+use Rattle.jq_meaning.specs.machine.Evaluating.{enter, enter_body}
+use Rattle.jq_meaning.specs.machine.State.{Frame, ForkPoint, state, evaluate}
 use Rattle.jq_state.specs.Environments.{envs_of}
 use Rattle.jq_state.specs.Links.{scope_in}
 use Rattle.jq_state.specs.Nodes.{env_at}

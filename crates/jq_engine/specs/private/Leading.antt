@@ -1,14 +1,14 @@
 -- What a step comes to where filters of at most one output run at once.
 use Rattle.std.specs.Prelude.{◌≡◌, ◌∷◌, List, Option, Some, None, Result, IfOk}
-use Rattle.jv_meaning.specs.Value.{Value}
+use Rattle.jv_data.specs.Value.{Value}
 use Rattle.jq_tree.specs.Tree.{Tree}
 use Rattle.jq_meaning.specs.Meaning.{meaning}
 use Rattle.jq_meaning.specs.Runs.{Run, Item, plain, Ending, one, ended}
-use Rattle.jq_machine.specs.Heights.{Fit}
-use Rattle.jq_machine.specs.Machine.{step}
-use Rattle.jq_machine.specs.Operations.{ending_next}
-use Rattle.jq_machine.specs.State.{Frame, ForkPoint, state, evaluate, give, moves}
-use Rattle.jq_machine.specs.State as machine
+use Rattle.jq_meaning.specs.machine.Heights.{Fit}
+use Rattle.jq_meaning.specs.machine.Machine.{step}
+use Rattle.jq_meaning.specs.machine.Operations.{ending_next}
+use Rattle.jq_meaning.specs.machine.State.{Frame, ForkPoint, state, evaluate, give, moves}
+use Rattle.jq_meaning.specs.machine.State as machine
 use Rattle.jv_data.specs.declared.failures.NoMemory.{NoMemory}
 use Rattle.jq_single.specs.Single.{Ends, Leaves}
 use Rattle.jq_single.specs.declared.stops.Stop.{Stop}
@@ -21,8 +21,8 @@ use Rattle.jq_state.specs.declared.frames.Scope.{Scope}
 use Rattle.jq_state.specs.declared.next.Next.TheVariants as next
 use Rattle.jq_state.specs.declared.states.State.{State}
 use Rattle.jq_state.specs.declared.steps.Step.{Step}
-use Rattle.jq_backtracking.specs.declared.outcomes.Progress.{Progress}
-use Rattle.jq_backtracking.specs.Outcomes.{Steps}
+use Rattle.jq_transitions.specs.declared.backtracking.outcomes.Progress.{Progress}
+use Rattle.jq_transitions.specs.Outcomes.{Steps}
 
 -- A state, or the state after a filter in it was run at once.
 pub data AtOnce : machine.State → machine.State → Type 0 where

@@ -1,14 +1,14 @@
 -- What a run comes to.
 use Rattle.std.specs.Prelude.{◌≡◌, [], ◌∷◌}
-use Rattle.jv_meaning.specs.Value.{Value}
+use Rattle.jv_data.specs.Value.{Value}
 use Rattle.jq_meaning.specs.Runs.{Run, before, ended}
 use Rattle.jq_meaning.specs.Runs as runs
-use Rattle.jq_machine.specs.Machine.{Produces}
+use Rattle.jq_meaning.specs.machine.Machine.{Produces}
 use Rattle.jq_state.specs.Items.{item_of}
 use Rattle.jq_state.specs.Nexts.{stands}
 use Rattle.jq_state.specs.declared.next.Next.TheVariants as next
 use Rattle.jq_state.specs.declared.states.State.{State}
-use Rattle.jq_backtracking.specs.Outcomes.{ending_of}
+use Rattle.jq_transitions.specs.Outcomes.{ending_of}
 use Rattle.jq_engine.specs.Readiness.{CanGoOn}
 use Rattle.jq_engine.specs.declared.running.Reached.{Reached}
 use Rattle.jq_engine.specs.declared.running.Reached.TheVariants as reached

@@ -1,11 +1,11 @@
 -- What the evaluation of a filter comes to, where a filter in tail position may follow.
 use Rattle.std.specs.Prelude.{◌≡◌, ◌<◌}
-use Rattle.jv_meaning.specs.Value.{Value}
+use Rattle.jv_data.specs.Value.{Value}
 use Rattle.jq_ast.specs.Named.{named}
 use Rattle.jq_meaning.specs.Runs.{Run}
-use Rattle.jq_machine.specs.Machine.{step}
-use Rattle.jq_machine.specs.State.{moves}
-use Rattle.jq_machine.specs.State as machine
+use Rattle.jq_meaning.specs.machine.Machine.{step}
+use Rattle.jq_meaning.specs.machine.State.{moves}
+use Rattle.jq_meaning.specs.machine.State as machine
 use Rattle.jq_state.specs.Environments.{count_of}
 use Rattle.jq_state.specs.Items.{item_of}
 use Rattle.jq_state.specs.declared.items.Item.{Item}

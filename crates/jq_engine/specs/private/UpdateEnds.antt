@@ -1,12 +1,12 @@
 -- The end of a turn of an update: the frames around it, and what its names stand for.
 use Rattle.std.specs.Prelude.{◌≡◌, ◌<◌, ◌≤◌, ◌∷◌, length, Some, codes}
-use Rattle.jv_meaning.specs.Value.{Value}
+use Rattle.jv_data.specs.Value.{Value}
 use Rattle.jq_tree.specs.Tree.{Tree, whole}
 use Rattle.jq_meaning.specs.Env.{find_level}
 use Rattle.jq_meaning.specs.Runs.{Run, plain}
 use Rattle.jq_meaning.specs.Runs as runs
-use Rattle.jq_machine.specs.State.{source, body, label_body, fold_update, reducing}
-use Rattle.jq_machine.specs.State as machine
+use Rattle.jq_meaning.specs.machine.State.{source, body, label_body, fold_update, reducing}
+use Rattle.jq_meaning.specs.machine.State as machine
 use Rattle.jq_state.specs.Links.{scope_in}
 use Rattle.jq_state.specs.Nodes.{env_at}
 use Rattle.jq_state.specs.Steps.{step_in}
@@ -15,8 +15,8 @@ use Rattle.jq_state.specs.declared.frames.Scope.{Scope}
 use Rattle.jq_state.specs.declared.states.State.{State}
 use Rattle.jq_state.specs.declared.steps.Step.{Step}
 use Rattle.jq_shapes.specs.Names.{HasPut}
-use Rattle.jq_updates.specs.Settings.{Holds, Sets}
-use Rattle.jq_update_laws.specs.Body.{changed, without_part}
+use Rattle.jq_operations.specs.Settings.{Holds, Sets}
+use Rattle.jq_meaning.specs.updates.Body.{changed, without_part}
 use Rattle.jq_shapes.specs.declared.ends.Put.{Put}
 use Rattle.jq_engine.specs.declared.putting.Around.{Around}
 use Rattle.jq_engine.specs.declared.putting.UpdateEnd.{UpdateEnd}

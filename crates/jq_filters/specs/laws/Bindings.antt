@@ -1,10 +1,10 @@
 -- A filter in the bindings of its program.
 use Rattle.std.specs.Prelude.{◌≡◌, ℕ, List, length, map}
-use Rattle.jv_meaning.specs.Value.{Value}
+use Rattle.jv_data.specs.Value.{Value}
 use Rattle.jq_ast.specs.Named.{named}
 use Rattle.jq_ast.specs.declared.tree.Function.{Function}
 use Rattle.jq_ast.specs.declared.tree.Tree.{Tree}
-use Rattle.jq_bindings.specs.Programs.{program_env, with_bindings}
+use Rattle.jq_meaning.specs.Programs.{program_env, with_bindings}
 use Rattle.jq_meaning.specs.Env.{outermost, with_variables}
 use Rattle.jq_meaning.specs.Meaning.{meaning}
 use Rattle.jq_meaning.specs.Runs.{Run, Item}

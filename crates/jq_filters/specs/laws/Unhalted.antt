@@ -1,6 +1,6 @@
 -- Filters that call no function that halts.
 use Rattle.std.specs.Prelude.{◌≡◌, ℕ, List, map}
-use Rattle.jv_meaning.specs.Value.{Value}
+use Rattle.jv_data.specs.Value.{Value}
 use Rattle.jq_tree.specs.Prelude.{IsPrelude, followed_by}
 use Rattle.jq_tree.specs.Tree as tree
 use Rattle.jq_ast.specs.Named.{named}

@@ -1,12 +1,12 @@
 -- The prelude's `_modify`, which `f |= g` calls, in the bindings of a program.
 use Rattle.std.specs.Prelude.{◌≡◌, ◌+◌, List, Some, length, map}
-use Rattle.jv_meaning.specs.Value.{Value}
+use Rattle.jv_data.specs.Value.{Value}
 use Rattle.jq_tree.specs.Prelude.{IsPrelude, followed_by}
 use Rattle.jq_tree.specs.Tree as tree
 use Rattle.jq_ast.specs.Named.{named}
 use Rattle.jq_ast.specs.declared.tree.Function.{Function}
 use Rattle.jq_ast.specs.declared.tree.Tree.{Tree}
-use Rattle.jq_bindings.specs.laws.Added.{functions_before}
+use Rattle.jq_meaning.specs.laws.Added.{functions_before}
 use Rattle.jq_resolver.specs.Programs.{named_program}
 use Rattle.jq_state.specs.Modify.{KnowsModify}
 use Rattle.jq_syntax.specs.laws.Computed.{prelude}

@@ -1,6 +1,6 @@
 -- Compiled filters that are folds.
 use Rattle.std.specs.Prelude.{◌≡◌, ℕ, List, true}
-use Rattle.jv_meaning.specs.Value.{Value}
+use Rattle.jv_data.specs.Value.{Value}
 use Rattle.jq_tree.specs.Filter.{fold}
 use Rattle.jq_inputs.specs.Plans.{view_of}
 use Rattle.jq_pages.specs.Contents.{folded_in}

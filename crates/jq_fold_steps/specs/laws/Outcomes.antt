@@ -1,6 +1,6 @@
 -- A fold writes what the one run of its filter writes.
 use Rattle.std.specs.Prelude.{◌≡◌, ℕ, List, [], Bool, true}
-use Rattle.jv_meaning.specs.Value.{Value}
+use Rattle.jv_data.specs.Value.{Value}
 use Rattle.jq_ast.specs.Named.{named}
 use Rattle.jq_ast.specs.declared.tree.Tree.{Tree}
 use Rattle.jq_tree.specs.Inputs.{FoldShape, InputsInPlace}

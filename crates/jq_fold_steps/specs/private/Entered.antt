@@ -1,6 +1,6 @@
 -- The fold of a filter in a state where nothing was run yet.
 use Rattle.std.specs.Prelude.{◌≡◌, ℕ, ◌<◌, []}
-use Rattle.jv_meaning.specs.Value.{Value}
+use Rattle.jv_data.specs.Value.{Value}
 use Rattle.jq_meaning.specs.Runs.{Run, none}
 use Rattle.jq_state.specs.Environments.{count_of}
 use Rattle.jq_state.specs.Nodes.{env_at}

@@ -4,7 +4,7 @@ use Rattle.jq_ast.specs.Named.{named, named_as_pattern}
 use Rattle.jq_ast.specs.declared.tree.Pattern.{Pattern}
 use Rattle.jq_tree.specs.Tree as tree
 use Rattle.jq_meaning.specs.Env.{Env}
-use Rattle.jq_machine.specs.State.{Frame, Scope, fold_step, pipe_into, source}
+use Rattle.jq_meaning.specs.machine.State.{Frame, Scope, fold_step, pipe_into, source}
 use Rattle.jq_state.specs.Nodes.{env_at}
 use Rattle.jq_state.specs.Steps.{fold_of}
 use Rattle.jq_state.specs.declared.steps.Fold as steps

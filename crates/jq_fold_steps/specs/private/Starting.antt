@@ -2,7 +2,7 @@
 use Rattle.std.specs.Prelude.{◌≡◌, Option, Some, None}
 use Rattle.jq_tree.specs.Tree.{Tree}
 use Rattle.jq_meaning.specs.Runs.{Run, Item, none}
-use Rattle.jq_machine.specs.State.{Scope, Next, give, evaluate}
+use Rattle.jq_meaning.specs.machine.State.{Scope, Next, give, evaluate}
 use Rattle.jq_engine.specs.Engine.{IsRest}
 use Rattle.jq_engine.specs.declared.engines.Engine.{Engine}
 use Rattle.jq_folds.specs.Folding.{FoldAt, fold_in}

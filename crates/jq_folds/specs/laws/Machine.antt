@@ -1,10 +1,10 @@
 -- The states in which the machine begins the pieces of a fold.
 use Rattle.std.specs.Prelude.{List, [], ◌∷◌, Option, Some, None}
-use Rattle.jv_meaning.specs.Value.{Value}
+use Rattle.jv_data.specs.Value.{Value}
 use Rattle.jq_tree.specs.Tree.{Tree}
 use Rattle.jq_meaning.specs.Runs.{Item, plain}
-use Rattle.jq_machine.specs.State.{Scope, reducing, extracting, fold_step, Frame, source, pipe_into, evaluate, give, last_state, fork, State, state}
-use Rattle.jq_machine.specs.State as machine
+use Rattle.jq_meaning.specs.machine.State.{Scope, reducing, extracting, fold_step, Frame, source, pipe_into, evaluate, give, last_state, fork, State, state}
+use Rattle.jq_meaning.specs.machine.State as machine
 use Rattle.jq_folds.specs.Folding.{Fold, closing_tree}
 
 abbrev pub stepping : Tree → Option Tree → machine.Fold

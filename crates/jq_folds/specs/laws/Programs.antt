@@ -1,6 +1,6 @@
 -- Bindings after definitions that leave `inputs` alone.
 use Rattle.std.specs.Prelude.{◌≡◌, List, [], ◌∷◌, false, length}
-use Rattle.jv_meaning.specs.Value.{Value}
+use Rattle.jv_data.specs.Value.{Value}
 use Rattle.jq_tree.specs.Tree.{Name, Tree}
 use Rattle.jq_tree.specs.Tree as tree
 use Rattle.jq_tree.specs.Names.{Scope, to_function, is_bound}

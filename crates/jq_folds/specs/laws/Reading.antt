@@ -1,6 +1,6 @@
 -- Filters that do not call `inputs`, and bindings in which no filter does.
 use Rattle.std.specs.Prelude.{◌≡◌, ◌∷◌, true, length, ⊤}
-use Rattle.jv_meaning.specs.Value.{Value}
+use Rattle.jv_data.specs.Value.{Value}
 use Rattle.jq_tree.specs.Names.{Scope, to_function, is_bound, with_parameters}
 use Rattle.jq_tree.specs.Inputs.{inputs, count}
 use Rattle.jq_meaning.specs.Runs.{Run}

@@ -1,6 +1,6 @@
 -- The states and the endings of the pieces of a fold.
 use Rattle.std.specs.Prelude.{◌≡◌, List, [], ◌∷◌, ⊤}
-use Rattle.jv_meaning.specs.Value.{Value}
+use Rattle.jv_data.specs.Value.{Value}
 use Rattle.jq_meaning.specs.Runs.{Item, plain, located, Ending, Done, Run, none}
 use Rattle.jq_folds.specs.Pieces.{FoldState, going, stopped, Steps, step_from}
 

@@ -1,6 +1,6 @@
 -- The pieces of a string, with the trees in them.
 use Rattle.std.specs.Prelude.{List, [], ◌∷◌}
-use Rattle.jv_meaning.specs.Text.{text_of}
+use Rattle.jv_data.specs.Text.{text_of}
 use Rattle.jq_tree.specs.Tree as tree
 use Rattle.jq_ast.specs.Named.{named}
 use Rattle.jq_ast.specs.declared.tree.Piece.{Piece}

@@ -1,7 +1,7 @@
 -- Worked examples: filters that are run at a call depth of 0.
 use Rattle.std.specs.Prelude.{ℕ, pos, List, [], ◌∷◌, codes, map}
-use Rattle.jv_meaning.specs.Value.{Value, null}
-use Rattle.jv_meaning.specs.Value as value
+use Rattle.jv_data.specs.Value.{Value, null}
+use Rattle.jv_data.specs.Value as value
 use Rattle.jq_tree.specs.Tree.{Tree, no_trees}
 use Rattle.jq_tree.specs.Tree as tree
 use Rattle.jq_meaning.specs.Runs.{Item, plain, Run, Done, Stopped, deep, none}

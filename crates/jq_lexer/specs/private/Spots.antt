@@ -3,7 +3,7 @@ use Rattle.std.specs.Prelude.{◌≡◌, ◌≢◌, ℕ, ◌<◌, List, [], ◌�
 use Rattle.jq_tree.specs.Token as token
 use Rattle.jq_tree.specs.Lexing as lexing
 use Rattle.jq_tree.specs.Lexing.{is_space, Spot, between, within, Reads}
-use Rattle.jv_meaning.specs.Text.{text_of}
+use Rattle.jv_data.specs.Text.{text_of}
 use Rattle.jq_lexer.specs.Places.{Begins}
 use Rattle.jq_lexer.specs.Views.{token_of}
 use Rattle.jq_lexer.specs.declared.lexing.Parenthesis.{Parenthesis}

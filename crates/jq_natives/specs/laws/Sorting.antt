@@ -1,7 +1,7 @@
 -- Properties of sorted and grouped items, in terms that the definitions do not use.
 use Rattle.std.specs.Prelude.{◌≡◌, ◌≢◌, ⊤, List, [], ◌∷◌}
 use Rattle.std.specs.List.Sorted.{IsPermutation, IsSortedByKey, IsStableByKey}
-use Rattle.jv_meaning.specs.Value.{Value, compare}
+use Rattle.jv_data.specs.Value.{Value, compare}
 use Rattle.jq_natives.specs.Sorting.{Keyed, key}
 
 -- The same items, sorted by their keys; items with equal keys keep their order.

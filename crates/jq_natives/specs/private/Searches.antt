@@ -4,7 +4,7 @@ use Rattle.std.specs.List.{list_any}
 use Rattle.jv_data.specs.Held.{members_in}
 use Rattle.jv_data.specs.View.{items_view, members_view, view}
 use Rattle.jv_data.specs.declared.values.Val.{Val}
-use Rattle.jv_meaning.specs.Value.{values_of}
+use Rattle.jv_data.specs.Value.{values_of}
 use Rattle.jq_natives.specs.Containment.{contained_in, items_contained, members_contained}
 use Rattle.jq_natives.specs.declared.containment.Search.{Search}
 use Rattle.jq_natives.specs.declared.containment.Search.TheVariants.{Items, Item, Members}

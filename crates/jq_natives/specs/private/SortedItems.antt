@@ -5,7 +5,7 @@ use Rattle.std.specs.declared.alloc.Global.{Global}
 use Rattle.jv_data.specs.Fails.{FailsAs}
 use Rattle.jv_data.specs.View.{view}
 use Rattle.jv_data.specs.declared.failures.Fail.{Fail}
-use Rattle.jv_meaning.specs.Value.{Value, array, item, no_items}
+use Rattle.jv_data.specs.Value.{Value, array, item, no_items}
 use Rattle.jq_natives.specs.Answers.{is_same}
 use Rattle.jq_natives.specs.Sorting.{Keyed, key, kept_item, keyed_answer, sorted}
 use Rattle.jq_natives.specs.declared.sorting.KeyedItem.{KeyedItem}

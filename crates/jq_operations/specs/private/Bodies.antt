@@ -1,8 +1,8 @@
 -- The body of a function, the environment that its arguments make, and the names of the language.
 use Rattle.std.specs.Prelude.{◌≡◌, ℕ, List, String, map}
 use Rattle.std.specs.declared.alloc.Global.{Global}
-use Rattle.jv_meaning.specs.Text.{text_of}
-use Rattle.jv_meaning.specs.Value.{Value}
+use Rattle.jv_data.specs.Text.{text_of}
+use Rattle.jv_data.specs.Value.{Value}
 use Rattle.jq_ast.specs.Named.{named}
 use Rattle.jq_ast.specs.declared.tree.Function.{Function}
 use Rattle.jq_ast.specs.declared.tree.Tree.{Tree}
@@ -10,9 +10,9 @@ use Rattle.jq_tree.specs.Tree.{Name, trees_of}
 use Rattle.jq_tree.specs.Tree as form
 use Rattle.jq_meaning.specs.Env.{Env, with_arguments}
 use Rattle.jq_meaning.specs.Runs.{Run, Item}
-use Rattle.jq_machine.specs.Evaluating as machine
-use Rattle.jq_machine.specs.State.{Frame, ForkPoint, state}
-use Rattle.jq_machine.specs.State as machine_state
+use Rattle.jq_meaning.specs.machine.Evaluating as machine
+use Rattle.jq_meaning.specs.machine.State.{Frame, ForkPoint, state}
+use Rattle.jq_meaning.specs.machine.State as machine_state
 use Rattle.jq_state.specs.Nexts.{ComesWith, next_in, on_stack, transition}
 use Rattle.jq_state.specs.Nodes.{env_at}
 use Rattle.jq_state.specs.Views.{envs_in}

@@ -1,6 +1,6 @@
 -- Paths that are extended.
 use Rattle.std.specs.Prelude.{List, [], ◌∷◌, ◌++◌, Option, option_map}
-use Rattle.jv_meaning.specs.Value.{Value}
+use Rattle.jv_data.specs.Value.{Value}
 use Rattle.jq_meaning.specs.Builtins.{values_in_array}
 
 -- the keys, followed by those in the path argument

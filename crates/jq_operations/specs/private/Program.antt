@@ -1,6 +1,6 @@
 -- The environments of the program's own bindings.
 use Rattle.std.specs.Prelude.{◌≡◌, ℕ, suc, ◌≤◌, length, slice_get, Some, None}
-use Rattle.jv_meaning.specs.Value.{Value}
+use Rattle.jv_data.specs.Value.{Value}
 use Rattle.jq_tree.specs.Tree.{Name}
 use Rattle.jq_meaning.specs.Env.{outermost, bound, find_level}
 use Rattle.jq_meaning.specs.Env as env

@@ -1,6 +1,6 @@
 -- The arguments of `range`.
 use Rattle.std.specs.Prelude.{[], ◌∷◌}
-use Rattle.jv_meaning.specs.Value.{Value}
+use Rattle.jv_data.specs.Value.{Value}
 use Rattle.jq_meaning.specs.Builtins.{range_of}
 use Rattle.jq_meaning.specs.Runs.{Item, Run}
 

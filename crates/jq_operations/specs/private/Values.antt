@@ -1,6 +1,6 @@
 -- The value of a variable in one binding.
 use Rattle.std.specs.Prelude.{◌≡◌, List}
-use Rattle.jv_meaning.specs.Value.{Value}
+use Rattle.jv_data.specs.Value.{Value}
 use Rattle.jq_tree.specs.Tree.{Name}
 use Rattle.jq_meaning.specs.Env.{Env, bound, find_value}
 use Rattle.jq_state.specs.Nodes.{binding_in}

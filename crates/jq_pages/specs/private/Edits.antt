@@ -1,7 +1,7 @@
 -- Edits of pages: at place `p` they take `cut` inputs out and put `put` in.
 use Rattle.std.specs.Prelude.{◌≡◌, ℕ, ◌+◌, ◌-◌, ◌≤◌, List, take, drop, length, map, IsTrue, IsFalse, Result, Ok, Err, IfOk, OnOk, OnErr}
 use Rattle.std.specs.List.{replace_range}
-use Rattle.jv_meaning.specs.Value.{Value}
+use Rattle.jv_data.specs.Value.{Value}
 use Rattle.jv_data.specs.View.{view}
 use Rattle.jv_data.specs.declared.values.Val.{Val}
 use Rattle.jq_pages.specs.Folds.{Fold, Rises, state_after}

@@ -1,7 +1,7 @@
 -- A removal that is taken back.
 use Rattle.std.specs.Prelude.{◌≡◌, ℕ, ◌+◌, ◌-◌, ◌<◌, ◌≤◌, List, [], ◌∷◌, ◌++◌, take, drop, get_or, length, map, Option, Some, None, Result, Ok, IfOk, MatchOption, IsTrue, IsFalse, slice_get}
 use Rattle.std.specs.List.{replace_range}
-use Rattle.jv_meaning.specs.Value.{Value}
+use Rattle.jv_data.specs.Value.{Value}
 use Rattle.jv_data.specs.View.{view}
 use Rattle.jv_data.specs.declared.failures.NoMemory.{NoMemory}
 use Rattle.jq_pages.specs.Folds.{Fold, Rises}

@@ -1,7 +1,7 @@
 -- Runs over pages.
 use Rattle.std.specs.Prelude.{◌≡◌, ℕ, List, [], ◌∷◌, map, take, drop, length, ◌+◌, ◌≤◌}
 use Rattle.std.specs.List.{flat_map}
-use Rattle.jv_meaning.specs.Value.{Value}
+use Rattle.jv_data.specs.Value.{Value}
 use Rattle.jv_data.specs.View.{view}
 use Rattle.jq_pages.specs.Pieces.{PieceView, piece_view}
 use Rattle.jq_pages.specs.Folds.{Fold, state_after, pieces_after}

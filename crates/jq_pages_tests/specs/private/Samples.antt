@@ -1,7 +1,7 @@
 -- Three folds: the sums of the inputs so far, each input by itself, and the largest input so far. A piece is the last digit of a
 -- number.
 use Rattle.std.specs.Prelude.{ℕ, ◌+◌, ◌%◌, pos, negsuc, [], ◌∷◌, true, false, if◌then◌else◌, nat_lt, None, Some}
-use Rattle.jv_meaning.specs.Value.{Value, number}
+use Rattle.jv_data.specs.Value.{Value, number}
 use Rattle.jq_pages.specs.Folds.{Fold}
 use Rattle.jq_pages.specs.Pieces.{PieceView}
 use Rattle.jq_pages.specs.declared.pieces.Last.TheVariants as last

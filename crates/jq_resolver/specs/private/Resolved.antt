@@ -1,7 +1,7 @@
 -- What the resolution of a part of a tree does: the names stay, each gets its binder, and the scope becomes that of the
 -- definition. `s` is the scope before, `t` the scope after.
 use Rattle.std.specs.Prelude.{◌≡◌, ℕ, List, [], ◌∷◌, length, map}
-use Rattle.jv_meaning.specs.Text.{text_of}
+use Rattle.jv_data.specs.Text.{text_of}
 use Rattle.jq_tree.specs.BoundTree as form
 use Rattle.jq_tree.specs.Binders.{bound_in, entry_in, pattern_in, part_in}
 use Rattle.jq_tree.specs.Names.{Scope, to_function, with_parameters, with_pattern, with_part}

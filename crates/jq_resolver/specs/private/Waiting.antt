@@ -1,7 +1,7 @@
 -- What a walk over a program still has to visit: the names that are used there, in the order of the text, and a bound on the
 -- number of parts.
 use Rattle.std.specs.Prelude.{ℕ, suc, ◌+◌, List, [], ◌∷◌, ◌++◌, map, length, Option, Some, None, Bool, true, false}
-use Rattle.jv_meaning.specs.Text.{text_of}
+use Rattle.jv_data.specs.Text.{text_of}
 use Rattle.jq_tree.specs.Tree as tree
 use Rattle.jq_tree.specs.BoundTree.{Binder, nowhere, BoundPieces}
 use Rattle.jq_tree.specs.BoundTree as form

@@ -1,6 +1,6 @@
 -- Runs on each input up to the first one that halts, input by input.
 use Rattle.std.specs.Prelude.{List}
-use Rattle.jv_meaning.specs.Value.{Value}
+use Rattle.jv_data.specs.Value.{Value}
 use Rattle.jq_fold_steps.specs.laws.Outcomes.{IsOutcome}
 use Rattle.jq_pages.specs.Contents.{folded_in}
 use Rattle.jq_filters.specs.Outcomes.{Job, on_each}

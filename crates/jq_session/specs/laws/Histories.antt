@@ -1,6 +1,6 @@
 -- A session after any list of calls.
 use Rattle.std.specs.Prelude.{◌≡◌, ℕ, ◌+◌, List, [], ◌∷◌, Option, Some, None, Result, Ok, Err}
-use Rattle.jv_meaning.specs.Value.{Value}
+use Rattle.jv_data.specs.Value.{Value}
 use Rattle.jq_filters.specs.Present.{values_outcome}
 use Rattle.jq_filters.specs.declared.filters.Filter.{Filter}
 use Rattle.jq_pages.specs.Edits.{Edit, Reason, edited}

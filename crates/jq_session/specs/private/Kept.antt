@@ -1,6 +1,6 @@
 -- What the pages of a session are for.
 use Rattle.std.specs.Prelude.{◌≡◌, ℕ, List, length, Ok}
-use Rattle.jv_meaning.specs.Value.{Value}
+use Rattle.jv_data.specs.Value.{Value}
 use Rattle.jq_fold_steps.specs.laws.Outcomes.{IsOutcome}
 use Rattle.jq_pages.specs.Changes.{IsChange, IsRerun, IsStart}
 use Rattle.jq_pages.specs.Contents.{folded_in}

@@ -1,6 +1,6 @@
 -- How many runs a filter makes.
 use Rattle.std.specs.Prelude.{ℕ, List}
-use Rattle.jv_meaning.specs.Value.{Value}
+use Rattle.jv_data.specs.Value.{Value}
 use Rattle.jq_filters.specs.Filters.{filter_job, filter_mode}
 use Rattle.jq_filters.specs.Present.{run_count}
 use Rattle.jq_filters.specs.declared.filters.Filter.{Filter}

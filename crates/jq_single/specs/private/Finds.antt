@@ -2,8 +2,8 @@
 use Rattle.std.specs.Prelude.{◌≡◌, ℕ, List, map, Option, MatchOption, String}
 use Rattle.std.specs.Borrow.{Bor}
 use Rattle.std.specs.declared.alloc.Global.{Global}
-use Rattle.jv_meaning.specs.Text.{text_of}
-use Rattle.jv_meaning.specs.Value.{Value}
+use Rattle.jv_data.specs.Text.{text_of}
+use Rattle.jv_data.specs.Value.{Value}
 use Rattle.jq_ast.specs.Named.{named}
 use Rattle.jq_ast.specs.declared.tree.Tree.{Tree}
 use Rattle.jq_tree.specs.Tree.{Name, trees_of}

@@ -1,6 +1,6 @@
 -- The first output of a filter, which is the only one that an update uses.
 use Rattle.std.specs.Prelude.{ℕ, [], ◌∷◌, Result}
-use Rattle.jv_meaning.specs.Value.{Value}
+use Rattle.jv_data.specs.Value.{Value}
 use Rattle.jv_data.specs.declared.values.Val.{Val}
 use Rattle.jq_tree.specs.Tree.{Tree}
 use Rattle.jq_meaning.specs.Runs.{Item, plain, Run, ended, one}

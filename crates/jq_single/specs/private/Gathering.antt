@@ -1,13 +1,13 @@
 -- What the outputs of a filter add to a list.
 use Rattle.std.specs.Prelude.{◌≡◌, ℕ, ℤ, pos, List, [], ◌∷◌, ◌++◌, map, reverse, Option, Some, None, Result, Ok, Err}
-use Rattle.jv_meaning.specs.Value.{Value, null, array, items_of, string}
-use Rattle.jv_meaning.specs.Text.{text_of}
+use Rattle.jv_data.specs.Value.{Value, null, array, items_of, string}
+use Rattle.jv_data.specs.Text.{text_of}
 use Rattle.jv_data.specs.View.{view}
 use Rattle.jv_data.specs.declared.values.Val.{Val}
 use Rattle.jq_ast.specs.Leaves.{key_of}
 use Rattle.jq_ast.specs.Named.{named}
 use Rattle.jq_tree.specs.Tree.{Name, Tree, Trees, whole}
-use Rattle.jq_machine.specs.Operations.{path_item}
+use Rattle.jq_meaning.specs.machine.Operations.{path_item}
 use Rattle.jq_meaning.specs.Builtins.{Builtin, numbers_up_to}
 use Rattle.jq_meaning.specs.Continuations.{on_source, on_state, on_target}
 use Rattle.jq_meaning.specs.Env.{bound, value_of}

@@ -1,7 +1,7 @@
 -- The outputs of the parts of objects and strings.
 use Rattle.std.specs.Prelude.{◌≡◌, ℕ, List, Result, Ok, Err}
 use Rattle.jv_data.specs.Shared.{text_in}
-use Rattle.jv_meaning.specs.Value.{Value, Members}
+use Rattle.jv_data.specs.Value.{Value, Members}
 use Rattle.jv_data.specs.declared.containers.texts.SharedText.{SharedText}
 use Rattle.jv_data.specs.declared.values.Val.{Val}
 use Rattle.jq_tree.specs.Tree.{Name, Tree, Entries, Pieces}

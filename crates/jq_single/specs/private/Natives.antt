@@ -1,7 +1,7 @@
 -- The outputs of natives.
 use Rattle.std.specs.Prelude.{ℕ, Result}
 use Rattle.jq_natives.specs.declared.native.Native.{Native}
-use Rattle.jv_meaning.specs.Value.{Value}
+use Rattle.jv_data.specs.Value.{Value}
 use Rattle.jv_data.specs.declared.values.Val.{Val}
 use Rattle.jq_tree.specs.Tree.{Trees}
 use Rattle.jq_meaning.specs.Runs.{Run}

@@ -1,7 +1,7 @@
 -- The environment that a scope represents.
 use Rattle.std.specs.Prelude.{List, map}
-use Rattle.jv_meaning.specs.Text.{text_of}
-use Rattle.jv_meaning.specs.Value.{Value}
+use Rattle.jv_data.specs.Text.{text_of}
+use Rattle.jv_data.specs.Value.{Value}
 use Rattle.jv_data.specs.View.{view}
 use Rattle.jq_ast.specs.Named.{named}
 use Rattle.jq_ast.specs.declared.tree.Function.{Function}

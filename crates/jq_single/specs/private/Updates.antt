@@ -1,11 +1,11 @@
 -- The results of the steps of an update.
 use Rattle.std.specs.Prelude.{◌≡◌, ℕ, suc, List, [], map, Result}
-use Rattle.jv_meaning.specs.Value.{Value, array, items_of}
+use Rattle.jv_data.specs.Value.{Value, array, items_of}
 use Rattle.jv_data.specs.View.{view}
 use Rattle.jv_data.specs.declared.values.Val.{Val}
 use Rattle.jq_tree.specs.Tree.{Tree}
 use Rattle.jq_meaning.specs.Runs.{Item, Run, Done, plain, located, one, gathered, paths_in}
-use Rattle.jq_update_laws.specs.laws.Updating.{turn_of, turns, updated}
+use Rattle.jq_meaning.specs.laws.Updating.{turn_of, turns, updated}
 use Rattle.jq_single.specs.Single.{Changed}
 use Rattle.jq_single.specs.declared.contexts.Context.{Context}
 use Rattle.jq_single.specs.declared.stops.Stop.{Stop}

@@ -1,10 +1,10 @@
 -- Items with a path, and without a path.
 use Rattle.std.proofs.Common.{◌≡◌, ℕ, List, [], ◌∷◌, Option, Some, None, true, false, is_some, refl}
-use Rattle.jv_meaning.specs.Value.{Value}
+use Rattle.jv_data.specs.Value.{Value}
 use Rattle.jv_data.specs.View.{view}
 use Rattle.jq_meaning.specs.Runs.{plain, value_in}
-use Rattle.jq_machine.specs.Matching.{checked}
-use Rattle.jq_machine.specs.State.{Frame, ForkPoint, fork, check_update}
+use Rattle.jq_meaning.specs.machine.Matching.{checked}
+use Rattle.jq_meaning.specs.machine.State.{Frame, ForkPoint, fork, check_update}
 use Rattle.jq_state.specs.Items.{keys_of, item_at, item_of}
 use Rattle.jq_state.specs.declared.items.Item.{Item}
 

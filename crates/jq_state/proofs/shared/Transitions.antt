@@ -1,9 +1,9 @@
 -- States of the machine, by what their parts are.
 use Rattle.std.proofs.Common.{◌≡◌, ◌∙◌, List, sym, ap}
-use Rattle.jv_meaning.specs.Value.{Value}
+use Rattle.jv_data.specs.Value.{Value}
 use Rattle.jq_tree.specs.Tree.{Tree}
 use Rattle.jq_meaning.specs.Runs.{Run, Item}
-use Rattle.jq_machine.specs.State.{Frame, ForkPoint, state, evaluate}
+use Rattle.jq_meaning.specs.machine.State.{Frame, ForkPoint, state, evaluate}
 use Rattle.jq_state.specs.Environments.{envs_of}
 use Rattle.jq_state.specs.Links.{scope_in}
 use Rattle.jq_state.specs.Views.{envs_in, frames_in, forks_in}

@@ -1,7 +1,7 @@
 -- The first of a fork point's items, which is given.
 use Rattle.std.specs.Prelude.{◌≡◌, List, [], ◌∷◌}
-use Rattle.jq_machine.specs.Machine.{resume}
-use Rattle.jq_machine.specs.State as machine
+use Rattle.jq_meaning.specs.machine.Machine.{resume}
+use Rattle.jq_meaning.specs.machine.State as machine
 use Rattle.jq_state.specs.Forks.{choice_in}
 use Rattle.jq_state.specs.Items.{item_of}
 use Rattle.jq_state.specs.declared.forks.Choice.{Choice}

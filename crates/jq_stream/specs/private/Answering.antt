@@ -1,7 +1,7 @@
 -- What was answered so far for the values of a stream.
 use Rattle.std.specs.Prelude.{◌≡◌, ℕ, Bool, List, [], ◌∷◌, ◌++◌, ◌||◌, false, if◌then◌else◌, map}
 use Rattle.std.specs.Io.KnownBytes.{Appends}
-use Rattle.jv_meaning.specs.Value.{Value}
+use Rattle.jv_data.specs.Value.{Value}
 use Rattle.jv_text.specs.declared.printing.Style.{Style}
 use Rattle.jq_natives.specs.Answers.{is_true}
 use Rattle.jq_meaning.specs.Runs.{Run, Item, none, value_in}

@@ -1,6 +1,6 @@
 -- Which values of a stream were given.
 use Rattle.std.specs.Prelude.{◌≡◌, ℕ, List, ◌++◌, Option, Some, None}
-use Rattle.jv_meaning.specs.Value.{Value}
+use Rattle.jv_data.specs.Value.{Value}
 use Rattle.jv_text.specs.Cutting.{HasGiven, AllGiven, is_finished, fault_of}
 use Rattle.jv_text.specs.declared.cutting.Cutter.{Cutter}
 use Rattle.jv_text.specs.declared.faults.Fault.{Fault}

@@ -1,6 +1,6 @@
 -- The texts of a whole input.
 use Rattle.std.specs.Prelude.{◌≡◌, ℕ, List, true, false, Option, Some, None, Result, Ok, Err}
-use Rattle.jv_meaning.specs.Value.{Value, string}
+use Rattle.jv_data.specs.Value.{Value, string}
 use Rattle.jv_text.specs.Stream.{stream}
 use Rattle.jv_text.specs.declared.faults.Fault.{Fault}
 use Rattle.jq_meaning.specs.Runs as runs

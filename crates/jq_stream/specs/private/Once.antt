@@ -1,6 +1,6 @@
 -- What a single run writes.
 use Rattle.std.specs.Prelude.{◌≡◌, ℕ, List, [], ◌∷◌}
-use Rattle.jv_meaning.specs.Value.{Value, array, items_of}
+use Rattle.jv_data.specs.Value.{Value, array, items_of}
 use Rattle.jq_meaning.specs.Runs.{Run, Item, none}
 use Rattle.jq_filters.specs.Outcomes.{Outcome, runs_outcome}
 use Rattle.jq_filters.specs.Running.{run_on}

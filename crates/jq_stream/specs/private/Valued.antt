@@ -1,6 +1,6 @@
 -- Runs on values that are all present.
 use Rattle.std.specs.Prelude.{◌≡◌, ℕ, List}
-use Rattle.jv_meaning.specs.Value.{Value}
+use Rattle.jv_data.specs.Value.{Value}
 use Rattle.jq_filters.specs.Outcomes.{Mode, on_each, on_null, on_all, Job}
 use Rattle.jq_filters.specs.Present.{values_outcome, run_count}
 use Rattle.jq_filters.specs.Runner.{job_of}

@@ -5,9 +5,9 @@ use Rattle.jv_data.specs.Held.{members_in}
 use Rattle.jv_data.specs.View.{members_view}
 use Rattle.jv_data.specs.declared.containers.objects.Object.{Object}
 use Rattle.jv_data.specs.declared.values.Val.{Val}
-use Rattle.jv_meaning.specs.Members.{member_or_null, put}
-use Rattle.jv_meaning.specs.Text.{text_of}
-use Rattle.jv_meaning.specs.Value.{Value, object, Members, no_members, member}
+use Rattle.jv_data.specs.Members.{member_or_null, put}
+use Rattle.jv_data.specs.Text.{text_of}
+use Rattle.jv_data.specs.Value.{Value, object, Members, no_members, member}
 use Rattle.jv_arith.specs.Objects.{deep_union, united}
 use Rattle.jv_arith.specs.declared.objects.Open.{Open}
 use Rattle.jv_arith.specs.declared.objects.Step.{Step}

@@ -2,7 +2,7 @@
 use Rattle.std.proofs.Common.{◌≡◌, ◌∙◌, ℤ, Bool, List, [], ◌∷◌, map, zip, refl, sym, ap, rules}
 use Rattle.jv_data.specs.Held.{values_in, members_in, members_of_value}
 use Rattle.jv_data.specs.Shared.{text_in, entries_held, entries_in}
-use Rattle.jv_meaning.specs.Value.{null, boolean, number, string, array, object, items_of}
+use Rattle.jv_data.specs.Value.{null, boolean, number, string, array, object, items_of}
 use Rattle.jv_data.specs.View.{view, members_view}
 use Rattle.jv_data.specs.declared.containers.members.Members.{Members}
 use Rattle.jv_data.specs.declared.containers.members.Members.TheVariants.{Few, Many}

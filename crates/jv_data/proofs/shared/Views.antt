@@ -3,8 +3,8 @@ use Rattle.std.proofs.Common.{◌≡◌, ◌∙◌, suc, List, [], ◌∷◌, le
 use Rattle.std.proofs.lemmas.List.{length-map}
 use Rattle.std.proofs.lemmas.Str.{encodes-chars, IsUtf8-had, IsUtf8-string_bytes}
 use Rattle.std.specs.Prelude.{encode_utf8_all, IsUtf8}
-use Rattle.jv_meaning.proofs.Items.{values_of-items_of}
-use Rattle.jv_meaning.specs.Value.{values_of, keys}
+use Rattle.jv_data.proofs.shared.Items.{values_of-items_of}
+use Rattle.jv_data.specs.Value.{values_of, keys}
 use Rattle.jv_data.specs.View.{view, items_view, members_view}
 use Rattle.jv_data.specs.Shared.{bytes_held, bytes_in, text_in, items_in, entries_in}
 use Rattle.jv_data.specs.declared.containers.characters.Characters.{Characters}

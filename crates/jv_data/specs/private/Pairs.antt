@@ -3,7 +3,7 @@ use Rattle.std.specs.Prelude.{Result, Ok, Err}
 use Rattle.std.specs.Borrow.{Bor}
 use Rattle.std.specs.Ordering.{ordering_then}
 use Rattle.std.specs.declared.cmp.Ordering.{Ordering}
-use Rattle.jv_meaning.specs.Value.{compare, compare_items, compare_members}
+use Rattle.jv_data.specs.Value.{compare, compare_items, compare_members}
 use Rattle.jv_data.specs.View.{view, items_view, members_view}
 use Rattle.jv_data.specs.declared.pairs.Pair.{Pair}
 use Rattle.jv_data.specs.declared.pairs.Pair.TheVariants.{Items, Members}

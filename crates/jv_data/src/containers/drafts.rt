@@ -5,8 +5,8 @@ ghost use Rattle.jv_data.specs.Drafts.{drafted, members_of_parts, IsPlace, IsPla
 ghost use Rattle.jv_data.specs.declared.containers.drafts.Place.TheVariants.{Known};
 ghost use Rattle.jv_data.specs.Held.{members_in};
 ghost use Rattle.jv_data.specs.View.{view};
-ghost use Rattle.jv_meaning.specs.Members.{put};
-ghost use Rattle.jv_meaning.specs.Value.{no_members};
+ghost use Rattle.jv_data.specs.Members.{put};
+ghost use Rattle.jv_data.specs.Value.{no_members};
 
 use super::objects::Object;
 use super::sharing::KnownNames;

@@ -11,8 +11,8 @@ ghost use Rattle.std.specs.Str.{chars};
 ghost use Rattle.jv_data.specs.Shared.{entries_held};
 ghost use Rattle.jv_data.specs.View.{view, members_view};
 ghost use Rattle.jv_data.specs.private.Names.{GoesTo};
-ghost use Rattle.jv_meaning.specs.Members.{member_at, put, without};
-ghost use Rattle.jv_meaning.specs.Text.{text_of};
+ghost use Rattle.jv_data.specs.Members.{member_at, put, without};
+ghost use Rattle.jv_data.specs.Text.{text_of};
 
 use super::iterating::Iter;
 use super::names::Names;

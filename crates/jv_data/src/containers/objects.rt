@@ -5,10 +5,10 @@ ghost use Rattle.std.specs.List.{zip};
 ghost use Rattle.std.specs.Str.{chars};
 ghost use Rattle.std.specs.Map.Iter.{ShowsInOrder, ShowsValuesInOrder, deref_pair};
 ghost use Rattle.jv_data.specs.Held.{members_in};
-ghost use Rattle.jv_meaning.specs.Members.{IsInOrder, member_at, put, without};
+ghost use Rattle.jv_data.specs.Members.{IsInOrder, member_at, put, without};
 ghost use Rattle.jv_data.specs.Shared.{entries_in};
-ghost use Rattle.jv_meaning.specs.Text.{text_of};
-ghost use Rattle.jv_meaning.specs.Value.{no_members};
+ghost use Rattle.jv_data.specs.Text.{text_of};
+ghost use Rattle.jv_data.specs.Value.{no_members};
 ghost use Rattle.jv_data.specs.View.{view, members_view};
 
 use super::iterating::Iter;

@@ -5,7 +5,7 @@ ghost use Rattle.jv_data.specs.Drafts.{present, held_in, IsIn};
 ghost use Rattle.jv_data.specs.private.Slots.{values_there, AreNone, AreSome};
 ghost use Rattle.jv_data.specs.Held.{members_in};
 ghost use Rattle.jv_data.specs.View.{view, members_view};
-ghost use Rattle.jv_meaning.specs.Members.{put};
+ghost use Rattle.jv_data.specs.Members.{put};
 
 use super::names::Names;
 use super::objects::Object;

@@ -6,7 +6,7 @@ use Rattle.json.specs.Token.{Token, begin_object, end_object, begin_array, end_a
 use Rattle.serde_json.specs.Find.{as_i64}
 use Rattle.serde_json.specs.Read.{number_of}
 use Rattle.jv_cut.specs.declared.nesting.Quote.TheVariants.{Outside}
-use Rattle.jv_meaning.specs.Value.{Value}
+use Rattle.jv_data.specs.Value.{Value}
 use Rattle.jv_text.specs.Numbers.{run_text, whole_numbers}
 use Rattle.jv_text.specs.Plain.{plain_value}
 

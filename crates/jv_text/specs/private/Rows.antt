@@ -1,6 +1,6 @@
 -- How the formats of rows differ. For private contracts.
 use Rattle.std.specs.Prelude.{ℕ, List, [], ◌++◌, codes, flat_map, Ok}
-use Rattle.jv_meaning.specs.Value.{Value, Items, no_items, item}
+use Rattle.jv_data.specs.Value.{Value, Items, no_items, item}
 use Rattle.jv_text.specs.private.Escapes.{written_in}
 use Rattle.jv_text.specs.Formats.{Text, csv_field, csv_quote, csv_separator, joined, no_csv_field, no_shell_word, no_tsv_field, shell_quote, shell_separator, shell_word, tsv_field, tsv_separator}
 use Rattle.jv_text.specs.declared.formats.escapes.Escapes.{Escapes}

@@ -4,7 +4,7 @@ use Rattle.json.specs.Json as json
 use Rattle.json.specs.Token.{Token}
 use Rattle.serde_json.specs.Data as json_data
 use Rattle.serde_json.specs.Read.{of_json, of_items, of_members, converted}
-use Rattle.jv_meaning.specs.Value.{Value, Items, Members}
+use Rattle.jv_data.specs.Value.{Value, Items, Members}
 use Rattle.jv_text.specs.Json.{value_of, items_of, members_of}
 
 -- what was read is data with the value v, and the tokens `rest` follow

@@ -1,6 +1,6 @@
 // Formats of a value's whole text.
 ghost use Rattle.std.specs.Prelude.{◌≡◌, IfOk, encode_utf8_all, flat_map};
-ghost use Rattle.jv_meaning.specs.Text.{text_of};
+ghost use Rattle.jv_data.specs.Text.{text_of};
 ghost use Rattle.jv_data.specs.View.{view};
 ghost use Rattle.jv_text.specs.Formats.{base64_text, html_character, uri_byte};
 ghost use Rattle.jv_text.specs.Printed.{text_of_value};

@@ -1,7 +1,7 @@
 // Texts in which some characters are escaped.
 ghost use Rattle.std.specs.Prelude.{◌≡◌, ◌++◌, OnOk, flat_map};
 ghost use Rattle.std.specs.Str.{chars};
-ghost use Rattle.jv_meaning.specs.Text.{text_of};
+ghost use Rattle.jv_data.specs.Text.{text_of};
 ghost use Rattle.jv_text.specs.private.Escapes.{IsWritten, written_in};
 ghost use Rattle.jv_text.specs.Formats.{csv_character, html_character, shell_character, tsv_character};
 

@@ -1,8 +1,8 @@
 // Rows: the fields of an array, one after the other.
 ghost use Rattle.std.specs.Prelude.{◌≡◌, ◌++◌, OnOk};
 ghost use Rattle.std.specs.Str.{chars};
-ghost use Rattle.jv_meaning.specs.Value.{boolean};
-ghost use Rattle.jv_meaning.specs.Text.{text_of};
+ghost use Rattle.jv_data.specs.Value.{boolean};
+ghost use Rattle.jv_data.specs.Text.{text_of};
 ghost use Rattle.jv_data.specs.View.{items_view, view};
 ghost use Rattle.jv_text.specs.Formats.{GivesText, csv_of, fields, sh_of, shell_word, tsv_of};
 ghost use Rattle.jv_text.specs.private.Appending.{Appends};

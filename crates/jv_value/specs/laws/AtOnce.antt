@@ -4,7 +4,7 @@ use Rattle.std.specs.Prelude.{◌≡◌, ◌+◌, ◌==◌, ℕ, ℤ, Bool, fals
 use Rattle.std.specs.List.{list_any}
 use Rattle.std.specs.Option.{option_map_or}
 use Rattle.std.specs.Ordering.{is_eq}
-use Rattle.jv_meaning.specs.Value.{number, string, array, object, Items, no_items, item, Members, no_members, member, values_of, text_cmp}
+use Rattle.jv_data.specs.Value.{number, string, array, object, Items, no_items, item, Members, no_members, member, values_of, text_cmp}
 use Rattle.jv_value.specs.DeletePaths.{delpaths_of}
 use Rattle.jv_value.specs.Index.{place_of}
 

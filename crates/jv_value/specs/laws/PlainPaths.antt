@@ -1,7 +1,7 @@
 -- Paths of keys and indexes, without slices, and where two of them diverge.
 use Rattle.std.specs.Prelude.{◌≡◌, ◌≢◌, pos, negsuc, List, [], ◌∷◌, ◌++◌, ⊤, Ok}
 use Rattle.std.specs.List.Sorted.{IsPermutation}
-use Rattle.jv_meaning.specs.Value.{Value, number, string}
+use Rattle.jv_data.specs.Value.{Value, number, string}
 use Rattle.jv_value.specs.DeletePaths.{delpaths_of}
 use Rattle.jv_value.specs.GetPath.{getpath_of}
 use Rattle.jv_value.specs.SetPath.{setpath_of}

@@ -2,7 +2,7 @@
 use Rattle.std.specs.Prelude.{◌≡◌, List, Result, Ok, MatchResult, Vec}
 use Rattle.std.specs.declared.alloc.Global.{Global}
 use Rattle.jv_data.specs.Fails.{FailsAs}
-use Rattle.jv_meaning.specs.Value.{Value}
+use Rattle.jv_data.specs.Value.{Value}
 use Rattle.jv_data.specs.declared.failures.Fail.{Fail}
 use Rattle.jv_value.specs.Locations.{Location}
 use Rattle.jv_value.specs.private.Locations.{locations_in}

@@ -2,9 +2,9 @@
 use Rattle.std.specs.Prelude.{◌≡◌, ◌∷◌, [], List, map, Result, Ok, Err, MatchResult}
 use Rattle.jv_data.specs.Fails.{FailsAs}
 use Rattle.jv_data.specs.Held.{members_in}
-use Rattle.jv_meaning.specs.Members.{put}
-use Rattle.jv_meaning.specs.Value.{Value, object}
-use Rattle.jv_meaning.specs.Text.{text_of}
+use Rattle.jv_data.specs.Members.{put}
+use Rattle.jv_data.specs.Value.{Value, object}
+use Rattle.jv_data.specs.Text.{text_of}
 use Rattle.jv_data.specs.View.{view}
 use Rattle.jv_data.specs.declared.failures.Fail.{Fail}
 use Rattle.jv_data.specs.declared.values.Val.{Val}

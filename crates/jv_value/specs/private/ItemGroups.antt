@@ -1,6 +1,6 @@
 -- Locations grouped by the items that they are in.
 use Rattle.std.specs.Prelude.{◌≡◌, ℕ, ◌+◌, List, [], ◌∷◌, ◌++◌, map, Bool, false, if◌then◌else◌}
-use Rattle.jv_meaning.specs.Value.{Value}
+use Rattle.jv_data.specs.Value.{Value}
 use Rattle.jv_data.specs.View.{view}
 use Rattle.jv_value.specs.DeletePaths.{same_selector, following, names_itself, without_locations}
 use Rattle.jv_value.specs.Locations.{Selector, at, Location}

@@ -6,9 +6,9 @@ use Rattle.std.specs.declared.alloc.Global.{Global}
 use Rattle.jv_data.specs.Held.{members_in}
 use Rattle.jv_data.specs.View.{view}
 use Rattle.jv_data.specs.declared.values.Val.{Val}
-use Rattle.jv_meaning.specs.Members.{put}
-use Rattle.jv_meaning.specs.Text.{text_of}
-use Rattle.jv_meaning.specs.Value.{Value, array, items_of, object, Members}
+use Rattle.jv_data.specs.Members.{put}
+use Rattle.jv_data.specs.Text.{text_of}
+use Rattle.jv_data.specs.Value.{Value, array, items_of, object, Members}
 use Rattle.jv_value.specs.DeletePaths.{following, members_left, without_locations}
 use Rattle.jv_value.specs.Locations.{Location, key}
 use Rattle.jv_value.specs.private.Groups.{Group, Groups, held_in}

@@ -5,8 +5,8 @@ use Rattle.std.specs.Option.{option_map_or}
 use Rattle.jv_data.specs.Fails.{FailsAs}
 use Rattle.jv_data.specs.View.{view}
 use Rattle.jv_data.specs.declared.failures.Fail.{Fail}
-use Rattle.jv_meaning.specs.Members.{member_at}
-use Rattle.jv_meaning.specs.Value.{Value, null, number, string, array, object, items_of, values_of}
+use Rattle.jv_data.specs.Members.{member_at}
+use Rattle.jv_data.specs.Value.{Value, null, number, string, array, object, items_of, values_of}
 use Rattle.jv_value.specs.ErrorTexts.{cannot_index, key_name, not_slice_bounds}
 use Rattle.jv_value.specs.Index.{item_at, place_of, start_in, end_in}
 use Rattle.jv_value.specs.Locations.{Location, Selector, at, key, after, unsliced}

@@ -4,7 +4,7 @@ use Rattle.jq_devices.specs.Watched.{device_of}
 use Rattle.jq_filters.specs.Filters.{filter_job, filter_mode}
 use Rattle.jq_stream.specs.Streams.{streams_of}
 use Rattle.jq_syntax.specs.Chosen.{chosen}
-use Rattle.jv_meaning.proofs.shared.Results.{if_err_map, if_ok_map}
+use Rattle.jv_data.proofs.shared.Results.{if_err_map, if_ok_map}
 use Rattle.jq_app.specs.Stages.{stage, started_in}
 use Rattle.jq_app.proofs.Blaming.{blamed_by_report}
 use Rattle.jq_run.proofs.shared.FilterRefusals.{filter_refusal}

@@ -1,6 +1,6 @@
 use Rattle.jq_devices.specs.Watched.{device_of, failures_of}
 use Rattle.jq_stream.specs.Streams.{streams_of}
-use Rattle.jv_meaning.proofs.shared.Results.{if_err_map, if_ok_map}
+use Rattle.jv_data.proofs.shared.Results.{if_err_map, if_ok_map}
 use Rattle.jq_app.specs.Blaming.{failures}
 use Rattle.jq_app.specs.Stages.{stage, started_in}
 use Rattle.jq_app.proofs.Blaming.{read_by_files, same_files}

@@ -1,5 +1,5 @@
 use Rattle.std.proofs.Common.{◌≡◌, map, take}
-use Rattle.jv_meaning.specs.Text.{text_of}
+use Rattle.jv_data.specs.Text.{text_of}
 use Rattle.jq_tree.specs.WrittenOut as written
 use Rattle.jq_builders.specs.Views.{parameter_of}
 use Rattle.jq_builders.proofs.definitions.parameter_names.Given as goal

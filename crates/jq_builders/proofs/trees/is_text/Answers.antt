@@ -1,6 +1,6 @@
 use Rattle.std.proofs.Common.{◌∙◌, ap}
 use Rattle.std.specs.Str.{bytes_eq, chars}
-use Rattle.jv_meaning.proofs.shared.Texts.{same_characters}
+use Rattle.jv_data.proofs.shared.Texts.{same_characters}
 use Rattle.jq_builders.proofs.trees.is_text.Goals as goal
 
 pub returns : goal.returns

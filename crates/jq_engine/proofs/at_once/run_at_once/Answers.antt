@@ -3,7 +3,7 @@ use Rattle.jv_data.specs.View.{view}
 use Rattle.jq_ast.specs.Named.{named}
 use Rattle.jq_meaning.specs.Meaning.{meaning}
 use Rattle.jq_meaning.specs.Runs.{Item, plain, Done, Raised, one, ended}
-use Rattle.jq_machine.specs.State.{state, give}
+use Rattle.jq_meaning.specs.machine.State.{state, give}
 use Rattle.jq_state.specs.Environments.{envs_of}
 use Rattle.jq_state.specs.Inputs.{inputs_of}
 use Rattle.jq_state.specs.Items.{item_of}

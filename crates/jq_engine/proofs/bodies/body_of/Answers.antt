@@ -1,9 +1,9 @@
 use Rattle.std.proofs.Common.{◌∙◌, map, sym, ap}
-use Rattle.jv_meaning.specs.Text.{text_of}
+use Rattle.jv_data.specs.Text.{text_of}
 use Rattle.jq_ast.specs.Named.{name_of, named}
 use Rattle.jq_tree.specs.Tree.{no_trees}
 use Rattle.jq_meaning.specs.Builtins.{builtin_named}
-use Rattle.jq_machine.specs.Evaluating.{enter_callee, enter_body, enter_builtin}
+use Rattle.jq_meaning.specs.machine.Evaluating.{enter_callee, enter_body, enter_builtin}
 use Rattle.jq_state.specs.Environments.{envs_of}
 use Rattle.jq_state.specs.Links.{scope_in}
 use Rattle.jq_state.specs.Nodes.{env_at}

@@ -1,13 +1,13 @@
 use Rattle.std.proofs.Common.{◌≡◌, ◌∙◌, ◌∷◌, [], refl, sym, ap}
 use Rattle.std.proofs.lemmas.Result.{IfOk-weaker}
-use Rattle.jv_meaning.specs.Text.{text_of}
+use Rattle.jv_data.specs.Text.{text_of}
 use Rattle.jq_meaning.specs.Env.{bound, value_of}
 use Rattle.jq_meaning.specs.Runs.{value_in}
 use Rattle.jv_data.specs.View.{view}
-use Rattle.jq_machine.specs.Matching.{checked}
-use Rattle.jq_machine.specs.Operations.{state_in}
-use Rattle.jq_machine.specs.Stack.{cell_at, set_cell}
-use Rattle.jq_machine.specs.State.{with_env, fold_step, matched, give, state, moves}
+use Rattle.jq_meaning.specs.machine.Matching.{checked}
+use Rattle.jq_meaning.specs.machine.Operations.{state_in}
+use Rattle.jq_meaning.specs.machine.Stack.{cell_at, set_cell}
+use Rattle.jq_meaning.specs.machine.State.{with_env, fold_step, matched, give, state, moves}
 use Rattle.jq_state.specs.Environments.{envs_of}
 use Rattle.jq_state.specs.Inputs.{inputs_of}
 use Rattle.jq_state.specs.Items.{item_of, keys_of}

@@ -2,7 +2,7 @@ use Rattle.std.proofs.Common.{◌∙◌, ◌∷◌, sym, ap}
 use Rattle.std.proofs.lemmas.Result.{IfOk-weaker}
 use Rattle.jq_ast.specs.Named.{named, named_as_pattern}
 use Rattle.jq_tree.specs.Tree.{bind_as}
-use Rattle.jq_machine.specs.State.{body, source, state, evaluate, moves}
+use Rattle.jq_meaning.specs.machine.State.{body, source, state, evaluate, moves}
 use Rattle.jq_state.specs.Inputs.{inputs_of}
 use Rattle.jq_state.specs.Items.{item_of}
 use Rattle.jq_state.specs.Links.{scope_in}

@@ -3,7 +3,7 @@ use Rattle.jv_data.specs.View.{view}
 use Rattle.jq_ast.specs.Named.{named}
 use Rattle.jq_meaning.specs.Meaning.{meaning}
 use Rattle.jq_meaning.specs.Runs.{Item, plain, one}
-use Rattle.jq_machine.specs.State.{moves}
+use Rattle.jq_meaning.specs.machine.State.{moves}
 use Rattle.jq_single.specs.Single.{Ends}
 use Rattle.jq_state.specs.Environments.{envs_of}
 use Rattle.jq_state.specs.Inputs.{inputs_of}
@@ -12,7 +12,7 @@ use Rattle.jq_state.specs.Nodes.{env_at}
 use Rattle.jq_state.specs.Views.{envs_in}
 use Rattle.jq_state.specs.declared.environments.Nodes.{Nodes}
 use Rattle.jq_state.proofs.shared.Items.{absent}
-use Rattle.jq_backtracking.specs.declared.outcomes.Progress.TheVariants.{Moves}
+use Rattle.jq_transitions.specs.declared.backtracking.outcomes.Progress.TheVariants.{Moves}
 use Rattle.jq_engine.specs.private.Leading.{HasStopped, LeadsAfter, at_part}
 use Rattle.jq_engine.proofs.Waiting.{part_gives}
 use Rattle.jq_engine.proofs.parts.run_part.Goals as goal

@@ -3,12 +3,12 @@ use Rattle.std.proofs.lemmas.Result.{IfOk-weaker}
 use Rattle.jv_data.specs.View.{view}
 use Rattle.jq_ast.specs.Named.{named}
 use Rattle.jq_meaning.specs.Runs.{plain, Done, Raised}
-use Rattle.jq_machine.specs.Machine.{step}
-use Rattle.jq_machine.specs.State.{go_back, raise, moves}
+use Rattle.jq_meaning.specs.machine.Machine.{step}
+use Rattle.jq_meaning.specs.machine.State.{go_back, raise, moves}
 use Rattle.jq_state.specs.Inputs.{inputs_of}
 use Rattle.jq_state.specs.Items.{item_of}
 use Rattle.jq_state.proofs.shared.Transitions.{evaluates}
-use Rattle.jq_backtracking.specs.declared.outcomes.Progress.TheVariants.{Moves}
+use Rattle.jq_transitions.specs.declared.backtracking.outcomes.Progress.TheVariants.{Moves}
 use Rattle.jq_engine.proofs.Waiting.{part_begins, part_ends, steps_at}
 use Rattle.jq_engine.proofs.parts.stopped.Goals as goal
 

@@ -1,6 +1,6 @@
 use Rattle.std.proofs.Common.{◌∙◌, ◌<◌, refl, sym, ap, subst}
 use Rattle.jq_ast.specs.Named.{named}
-use Rattle.jq_machine.specs.State.{moves}
+use Rattle.jq_meaning.specs.machine.State.{moves}
 use Rattle.jq_state.specs.Environments.{count_of}
 use Rattle.jq_state.proofs.shared.Transitions.{evaluates}
 use Rattle.jq_engine.specs.private.Leading.{here}

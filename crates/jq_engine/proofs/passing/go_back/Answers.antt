@@ -1,12 +1,12 @@
 use Rattle.std.proofs.Common.{IfOk, ◌≡◌, ◌∙◌, ap, subst}
-use Rattle.jq_machine.specs.Machine.{step_of}
-use Rattle.jq_machine.specs.State.{state, give, go_back}
-use Rattle.jq_machine.specs.State as machine
+use Rattle.jq_meaning.specs.machine.Machine.{step_of}
+use Rattle.jq_meaning.specs.machine.State.{state, give, go_back}
+use Rattle.jq_meaning.specs.machine.State as machine
 use Rattle.jq_state.specs.Inputs.{inputs_of}
 use Rattle.jq_state.specs.Items.{item_of}
 use Rattle.jq_state.specs.Views.{frames_in, forks_in}
 use Rattle.jq_engine.specs.private.Leading.{here, by_transition}
-use Rattle.jq_backtracking.specs.Outcomes.{Steps}
+use Rattle.jq_transitions.specs.Outcomes.{Steps}
 use Rattle.jq_engine.proofs.Leading.{and_then, leads_on, leads_later, later_leads}
 use Rattle.jq_engine.proofs.passing.go_back.Goals as goal
 

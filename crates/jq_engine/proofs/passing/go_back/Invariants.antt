@@ -1,4 +1,4 @@
-use Rattle.jq_machine.specs.State.{state, go_back}
+use Rattle.jq_meaning.specs.machine.State.{state, go_back}
 use Rattle.jq_state.specs.Inputs.{inputs_of}
 use Rattle.jq_state.specs.Views.{frames_in, forks_in}
 use Rattle.jq_engine.specs.private.Leading.{Advances}

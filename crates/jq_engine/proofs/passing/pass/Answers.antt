@@ -1,6 +1,6 @@
 use Rattle.std.proofs.Common.{◌≡◌, ◌∙◌, ◌∷◌, sym, ap, subst}
 use Rattle.jq_ast.specs.Named.{named}
-use Rattle.jq_machine.specs.State.{pipe_into, state, evaluate, give}
+use Rattle.jq_meaning.specs.machine.State.{pipe_into, state, evaluate, give}
 use Rattle.jq_state.specs.Environments.{envs_of}
 use Rattle.jq_state.specs.Inputs.{inputs_of}
 use Rattle.jq_state.specs.Items.{item_of}

@@ -1,7 +1,7 @@
 use Rattle.std.proofs.Common.{◌∙◌, ◌∷◌, ◌++◌, [], refl, sym, ap}
 use Rattle.jv_data.specs.View.{view}
-use Rattle.jq_machine.specs.Stack.{cell_at, set_cell}
-use Rattle.jq_machine.specs.State.{collect, give, go_back, state}
+use Rattle.jq_meaning.specs.machine.Stack.{cell_at, set_cell}
+use Rattle.jq_meaning.specs.machine.State.{collect, give, go_back, state}
 use Rattle.jq_state.specs.Items.{item_of}
 use Rattle.jq_state.specs.Nexts.{stands}
 use Rattle.jq_state.specs.Views.{frames_in, forks_in}

@@ -2,7 +2,7 @@ use Rattle.std.proofs.Common.{◌∙◌, [], ◌∷◌, sym, ap}
 use Rattle.std.proofs.lemmas.Result.{IfOk-weaker}
 use Rattle.jv_data.specs.View.{view}
 use Rattle.jq_meaning.specs.Runs.{one}
-use Rattle.jq_machine.specs.Stack.{set_cell}
+use Rattle.jq_meaning.specs.machine.Stack.{set_cell}
 use Rattle.jq_state.specs.Items.{item_of}
 use Rattle.jq_state.specs.Nodes.{env_at}
 use Rattle.jq_state.specs.Views.{envs_in, without_first}

@@ -1,6 +1,6 @@
 use Rattle.std.proofs.Common.{◌∙◌, ◌∷◌, ap}
 use Rattle.jq_ast.specs.Named.{named}
-use Rattle.jq_machine.specs.State.{label_body}
+use Rattle.jq_meaning.specs.machine.State.{label_body}
 use Rattle.jq_state.specs.Links.{scope_in}
 use Rattle.jq_state.specs.Views.{envs_in, frames_in, without_first}
 use Rattle.jq_engine.proofs.putting.frames_around.Goals as goal

@@ -1,6 +1,6 @@
 use Rattle.std.proofs.Common.{◌≡◌, ◌∙◌, ◌∷◌, sym, ap}
 use Rattle.std.proofs.lemmas.Result.{IfOk-weaker}
-use Rattle.jq_machine.specs.State.{state, give}
+use Rattle.jq_meaning.specs.machine.State.{state, give}
 use Rattle.jq_state.specs.Environments.{envs_of}
 use Rattle.jq_state.specs.Items.{item_of}
 use Rattle.jq_state.specs.Links.{scope_in}

@@ -3,7 +3,7 @@ use Rattle.jv_data.specs.View.{view}
 use Rattle.jq_state.specs.Environments.{envs_of}
 use Rattle.jq_state.specs.Nodes.{env_at}
 use Rattle.jq_state.proofs.shared.Items.{absent}
-use Rattle.jq_updates.specs.Settings.{Holds}
+use Rattle.jq_operations.specs.Settings.{Holds}
 use Rattle.jq_engine.proofs.putting.kept_turn.Goals as goal
 
 pub returns : goal.returns

@@ -1,5 +1,5 @@
 use Rattle.std.proofs.Common.{◌∷◌, sym, ap}
-use Rattle.jq_machine.specs.State.{state, give, moves}
+use Rattle.jq_meaning.specs.machine.State.{state, give, moves}
 use Rattle.jq_state.specs.Items.{item_of}
 use Rattle.jq_state.specs.Links.{scope_in}
 use Rattle.jq_state.specs.Steps.{step_in}

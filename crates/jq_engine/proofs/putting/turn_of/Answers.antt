@@ -1,7 +1,7 @@
 use Rattle.std.proofs.Common.{subst}
 use Rattle.jq_state.specs.Environments.{envs_of}
 use Rattle.jq_state.specs.Nodes.{env_at}
-use Rattle.jq_updates.specs.Settings.{Sets}
+use Rattle.jq_operations.specs.Settings.{Sets}
 use Rattle.jq_engine.proofs.putting.turn_of.Goals as goal
 
 pub returns-in-Some-2 : goal.returns-in-Some-2

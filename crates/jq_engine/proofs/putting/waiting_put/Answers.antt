@@ -1,10 +1,10 @@
 use Rattle.std.proofs.Common.{◌∙◌, refl, sym, ap, codes}
 use Rattle.jv_data.specs.View.{view}
 use Rattle.jq_tree.specs.Tree.{whole}
-use Rattle.jq_machine.specs.State.{source, body}
+use Rattle.jq_meaning.specs.machine.State.{source, body}
 use Rattle.jq_state.specs.Items.{item_of}
 use Rattle.jq_state.proofs.shared.Items.{absent}
-use Rattle.jq_update_laws.specs.Body.{changed}
+use Rattle.jq_meaning.specs.updates.Body.{changed}
 use Rattle.jq_engine.proofs.Leading.{if_some}
 use Rattle.jq_engine.proofs.putting.waiting_put.Goals as goal
 

@@ -1,15 +1,15 @@
 use Rattle.std.proofs.Common.{◌≤◌, ◌<◌, arith}
 use Rattle.std.proofs.Math.Logic.{∥∥₁_elim, ∥∥₁_map}
-use Rattle.jq_machine.specs.Heights.{Fit}
-use Rattle.jq_machine.proofs.Correct.{left}
-use Rattle.jq_machine.proofs.Kept.{left-falls}
+use Rattle.jq_meaning.specs.machine.Heights.{Fit}
+use Rattle.jq_meaning.proofs.shared.machine.Correct.{left}
+use Rattle.jq_meaning.proofs.shared.machine.Kept.{left-falls}
 use Rattle.jq_state.specs.Environments.{count_of}
 use Rattle.jq_state.specs.Inputs.{inputs_of}
 use Rattle.jq_state.specs.Items.{item_of}
 use Rattle.jq_state.specs.Nexts.{stands}
 use Rattle.jq_state.specs.declared.next.Next.TheVariants as next
 use Rattle.jq_engine.specs.private.Leading.{Leads}
-use Rattle.jq_backtracking.specs.declared.outcomes.Progress.TheVariants as progress
+use Rattle.jq_transitions.specs.declared.backtracking.outcomes.Progress.TheVariants as progress
 use Rattle.jq_engine.proofs.AtOnce.{keeps, fits, low}
 use Rattle.jq_engine.proofs.Fitting.{Fit-prop}
 use Rattle.jq_engine.proofs.Ready.{NextFits-prop}

@@ -1,7 +1,7 @@
 use Rattle.jq_meaning.specs.Runs.{Run, Item}
-use Rattle.jq_machine.specs.Heights.{Fit}
-use Rattle.jq_machine.specs.Machine.{Produces}
-use Rattle.jq_machine.proofs.Correct.{left}
+use Rattle.jq_meaning.specs.machine.Heights.{Fit}
+use Rattle.jq_meaning.specs.machine.Machine.{Produces}
+use Rattle.jq_meaning.proofs.shared.machine.Correct.{left}
 use Rattle.jq_state.specs.Environments.{count_of}
 use Rattle.jq_state.specs.Inputs.{inputs_of}
 use Rattle.jq_state.specs.Nexts.{NextFits, stands}

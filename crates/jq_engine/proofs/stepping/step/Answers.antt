@@ -1,6 +1,6 @@
 use Rattle.std.proofs.Common.{refl}
 use Rattle.jv_data.specs.View.{view}
-use Rattle.jq_machine.specs.State.{state, raise}
+use Rattle.jq_meaning.specs.machine.State.{state, raise}
 use Rattle.jq_state.specs.Inputs.{inputs_of}
 use Rattle.jq_state.specs.Nexts.{stands}
 use Rattle.jq_state.specs.Views.{frames_in, forks_in}

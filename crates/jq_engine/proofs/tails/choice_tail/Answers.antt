@@ -4,7 +4,7 @@ use Rattle.jq_ast.specs.Named.{named}
 use Rattle.jq_tree.specs.Tree.{choice}
 use Rattle.jq_meaning.specs.Meaning.{meaning}
 use Rattle.jq_meaning.specs.Runs.{plain, one}
-use Rattle.jq_machine.specs.State.{test, state, give, evaluate, moves}
+use Rattle.jq_meaning.specs.machine.State.{test, state, give, evaluate, moves}
 use Rattle.jq_single.specs.Single.{Ends}
 use Rattle.jq_state.specs.Environments.{envs_of}
 use Rattle.jq_state.specs.Inputs.{inputs_of}

@@ -1,10 +1,10 @@
 use Rattle.std.proofs.Common.{◌≡◌, ◌∙◌, ◌<◌, sym, ap, subst}
 use Rattle.std.proofs.lemmas.Result.{IfOk-weaker}
 use Rattle.jq_ast.specs.Named.{named}
-use Rattle.jq_machine.specs.Evaluating.{enter}
-use Rattle.jq_machine.specs.Machine.{step}
-use Rattle.jq_machine.specs.State.{state, evaluate, moves}
-use Rattle.jq_machine.specs.State as machine
+use Rattle.jq_meaning.specs.machine.Evaluating.{enter}
+use Rattle.jq_meaning.specs.machine.Machine.{step}
+use Rattle.jq_meaning.specs.machine.State.{state, evaluate, moves}
+use Rattle.jq_meaning.specs.machine.State as machine
 use Rattle.jq_state.specs.Environments.{count_of, envs_of}
 use Rattle.jq_state.specs.Inputs.{inputs_of}
 use Rattle.jq_state.specs.Items.{item_of}

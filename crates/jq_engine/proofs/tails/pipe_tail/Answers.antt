@@ -4,7 +4,7 @@ use Rattle.jq_ast.specs.Named.{named}
 use Rattle.jq_tree.specs.Tree.{pipe}
 use Rattle.jq_meaning.specs.Meaning.{meaning}
 use Rattle.jq_meaning.specs.Runs.{Item, plain, one}
-use Rattle.jq_machine.specs.State.{pipe_into, state, give, moves}
+use Rattle.jq_meaning.specs.machine.State.{pipe_into, state, give, moves}
 use Rattle.jq_single.specs.Single.{Ends, Leaves}
 use Rattle.jq_state.specs.Environments.{count_of, envs_of}
 use Rattle.jq_state.specs.Inputs.{inputs_of}

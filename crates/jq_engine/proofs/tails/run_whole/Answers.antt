@@ -1,7 +1,7 @@
 use Rattle.jv_data.specs.View.{view}
 use Rattle.jq_ast.specs.Named.{named}
 use Rattle.jq_meaning.specs.Runs.{plain}
-use Rattle.jq_machine.specs.State.{state, go_back}
+use Rattle.jq_meaning.specs.machine.State.{state, go_back}
 use Rattle.jq_state.specs.Inputs.{inputs_of}
 use Rattle.jq_state.specs.Views.{frames_in, forks_in}
 use Rattle.jq_engine.specs.private.Leading.{at_filter}

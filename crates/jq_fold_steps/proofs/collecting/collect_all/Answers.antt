@@ -1,5 +1,5 @@
 use Rattle.std.proofs.Common.{◌∙◌, [], ◌∷◌, ◌++◌, refl, sym, ap}
-use Rattle.jq_backtracking.specs.Outcomes.{ending_of}
+use Rattle.jq_transitions.specs.Outcomes.{ending_of}
 use Rattle.jq_filters.specs.Pieces.{piece_of}
 use Rattle.jq_fold_steps.proofs.Outputs.{one-more, at-end, before-more, before-end}
 use Rattle.jq_fold_steps.proofs.collecting.collect_all.Goals as goal

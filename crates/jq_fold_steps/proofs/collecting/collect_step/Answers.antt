@@ -1,5 +1,5 @@
 use Rattle.std.proofs.Common.{[], ◌∷◌, ◌++◌, refl}
-use Rattle.jv_meaning.proofs.shared.Results.{if_ok_map}
+use Rattle.jv_data.proofs.shared.Results.{if_ok_map}
 use Rattle.jq_folds.specs.Pieces.{with_state}
 use Rattle.jq_fold_steps.proofs.Outputs.{before-more, before-end}
 use Rattle.jq_fold_steps.proofs.collecting.collect_step.Goals as goal

@@ -1,5 +1,5 @@
 use Rattle.std.proofs.Common.{subst}
-use Rattle.jv_meaning.proofs.shared.Results.{if_ok_map}
+use Rattle.jv_data.proofs.shared.Results.{if_ok_map}
 use Rattle.jq_fold_steps.specs.private.Collecting.{IsHeld}
 use Rattle.jq_fold_steps.proofs.collecting.end_step.Goals as goal
 

@@ -1,4 +1,4 @@
-use Rattle.jq_backtracking.specs.Outcomes.{ending_of}
+use Rattle.jq_transitions.specs.Outcomes.{ending_of}
 use Rattle.jq_fold_steps.proofs.Outputs.{kept-none}
 use Rattle.jq_fold_steps.proofs.collecting.end_without.Goals as goal
 

@@ -1,5 +1,5 @@
 use Rattle.std.proofs.Common.{◌∙◌, Some, ap, subst}
-use Rattle.jv_meaning.proofs.shared.Results.{if_ok_map}
+use Rattle.jv_data.proofs.shared.Results.{if_ok_map}
 use Rattle.jq_ast.specs.Named.{named}
 use Rattle.jq_folds.specs.Folding.{fold_in}
 use Rattle.jq_folds.specs.Pieces.{begun, with_state}

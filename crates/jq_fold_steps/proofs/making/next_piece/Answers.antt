@@ -1,6 +1,6 @@
 use Rattle.std.proofs.Common.{◌∙◌, Some, ap, subst}
 use Rattle.jv_data.specs.View.{view}
-use Rattle.jv_meaning.proofs.shared.Results.{if_ok_map}
+use Rattle.jv_data.proofs.shared.Results.{if_ok_map}
 use Rattle.jq_ast.specs.Named.{named}
 use Rattle.jq_meaning.specs.Runs.{plain}
 use Rattle.jq_folds.specs.Folding.{fold_in}

@@ -4,7 +4,7 @@ use Rattle.jq_ast.specs.Named.{named}
 use Rattle.jq_folds.specs.Folding.{fold_in}
 use Rattle.jq_folds.specs.Pieces.{begun, with_state}
 use Rattle.jq_meaning.specs.Runs.{plain}
-use Rattle.jq_machine.specs.Machine.{Produces}
+use Rattle.jq_meaning.specs.machine.Machine.{Produces}
 use Rattle.jq_state.specs.Nexts.{stands}
 use Rattle.jq_state.specs.declared.next.Next.TheVariants as next
 use Rattle.jq_engine.specs.Readiness.{CanGoOn}

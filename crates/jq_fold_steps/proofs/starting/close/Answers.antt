@@ -3,7 +3,7 @@ use Rattle.jv_data.specs.View.{view}
 use Rattle.jq_ast.specs.Named.{named}
 use Rattle.jq_folds.specs.Folding.{fold_in}
 use Rattle.jq_meaning.specs.Runs.{plain}
-use Rattle.jq_machine.specs.Machine.{Produces}
+use Rattle.jq_meaning.specs.machine.Machine.{Produces}
 use Rattle.jq_state.specs.Nexts.{stands}
 use Rattle.jq_state.specs.Views.{envs_in}
 use Rattle.jq_state.specs.Environments.{count_of}

@@ -1,5 +1,5 @@
 use Rattle.std.proofs.Common.{◌∙◌}
-use Rattle.jv_meaning.proofs.shared.Ascii.{ascii_same_as}
+use Rattle.jv_data.proofs.shared.Ascii.{ascii_same_as}
 use Rattle.jq_inputs.proofs.hidden.is_named.Goals as goal
 
 pub returns : goal.returns

@@ -1,7 +1,7 @@
 use Rattle.std.proofs.Common.{length, arith, ◌≡◌, rules, chars, refl, map}
 use Rattle.std.proofs.lemmas.List.{length-map}
 use Rattle.std.proofs.lemmas.Grind.{common_steps}
-use Rattle.jv_meaning.specs.Text.{text_of}
+use Rattle.jv_data.specs.Text.{text_of}
 use Rattle.jq_tree.specs.Names.{to_function}
 use Rattle.jq_tree.specs.Tree.{entries_of}
 use Rattle.jq_inputs.specs.private.Hidden.{hiding}

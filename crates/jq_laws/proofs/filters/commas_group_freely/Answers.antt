@@ -1,5 +1,5 @@
 use Rattle.std.proofs.Common.{refl}
-use Rattle.jq_machine.proofs.RunLaws.{then_run-assoc, then_run-none}
+use Rattle.jq_meaning.proofs.shared.machine.RunLaws.{then_run-assoc, then_run-none}
 use Rattle.jq_meaning.specs.Meaning.{meaning}
 use Rattle.jq_laws.proofs.filters.commas_group_freely.Goals as goal
 

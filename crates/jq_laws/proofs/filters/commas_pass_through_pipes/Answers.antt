@@ -1,4 +1,4 @@
-use Rattle.jq_machine.proofs.RunLaws.{bind-then_run}
+use Rattle.jq_meaning.proofs.shared.machine.RunLaws.{bind-then_run}
 use Rattle.jq_meaning.specs.Meaning.{meaning}
 use Rattle.jq_laws.proofs.filters.commas_pass_through_pipes.Goals as goal
 

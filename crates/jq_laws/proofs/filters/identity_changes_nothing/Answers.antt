@@ -1,4 +1,4 @@
-use Rattle.jq_machine.proofs.RunLaws.{bind-one, bind-one_right}
+use Rattle.jq_meaning.proofs.shared.machine.RunLaws.{bind-one, bind-one_right}
 use Rattle.jq_meaning.specs.Meaning.{meaning}
 use Rattle.jq_laws.proofs.filters.identity_changes_nothing.Goals as goal
 

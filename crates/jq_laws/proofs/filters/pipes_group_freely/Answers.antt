@@ -1,4 +1,4 @@
-use Rattle.jq_machine.proofs.RunLaws.{bind-bind}
+use Rattle.jq_meaning.proofs.shared.machine.RunLaws.{bind-bind}
 use Rattle.jq_meaning.specs.Meaning.{meaning}
 use Rattle.jq_laws.proofs.filters.pipes_group_freely.Goals as goal
 

@@ -1,8 +1,8 @@
 use Rattle.std.proofs.Common.{◌≡◌, ◌∙◌, ◌++◌, ap, rules, string_bytes}
 use Rattle.std.proofs.lemmas.Str.{chars-nil}
 use Rattle.std.specs.Str.{chars}
-use Rattle.jv_meaning.proofs.shared.Texts.{written_more}
-use Rattle.jv_meaning.specs.Text.{text_of}
+use Rattle.jv_data.proofs.shared.Texts.{written_more}
+use Rattle.jv_data.specs.Text.{text_of}
 use Rattle.jq_lexer.proofs.Pieces.{reading_end, reading_more, reading_start, unit_shorter}
 use Rattle.jq_lexer.proofs.strings.first_piece.Goals as goal
 use lib.Utf8.{encode}

@@ -1,5 +1,5 @@
 use Rattle.std.proofs.Common.{length}
-use Rattle.jv_meaning.specs.Text.{text_of}
+use Rattle.jv_data.specs.Text.{text_of}
 use Rattle.jq_lexer.proofs.Pieces.{Reading}
 use Rattle.jq_lexer.proofs.strings.first_piece.Given as goal
 

@@ -1,7 +1,7 @@
 use Rattle.std.proofs.Common.{◌≡◌, ◌∙◌, drop, subst}
 use Rattle.jq_tree.specs.Words.{spells_symbol}
 use Rattle.jq_lexer.specs.private.Found.{HasForm}
-use Rattle.jv_meaning.specs.Text.{text_of}
+use Rattle.jv_data.specs.Text.{text_of}
 use Rattle.jq_lexer.specs.Views.{symbol_of}
 use Rattle.jq_lexer.specs.declared.words.Shape.{Shape}
 use Rattle.jq_lexer.proofs.Texts.{after_all, field_spelt, format_spelt, variable_spelt}

@@ -2,8 +2,8 @@ use Rattle.std.proofs.Common.{◌≡◌, ◌∙◌, ◌++◌, ◌∷◌, [], ap,
 use Rattle.std.proofs.lemmas.Str.{chars-nil}
 use Rattle.std.specs.Str.{chars}
 use Rattle.std.specs.Vec.Iter.{into_iter_items}
-use Rattle.jv_meaning.specs.Text.{text_of}
-use Rattle.jv_meaning.proofs.shared.Texts.{written_more}
+use Rattle.jv_data.specs.Text.{text_of}
+use Rattle.jv_data.proofs.shared.Texts.{written_more}
 use Rattle.jq_natives.proofs.arrays.backwards.Goals as goal
 
 pub loop-c-init : goal.loop-c-init

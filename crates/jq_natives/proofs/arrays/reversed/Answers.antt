@@ -1,5 +1,5 @@
 use Rattle.std.proofs.Common.{◌∙◌, ap, sym, map, Ok, reverse}
-use Rattle.jv_meaning.specs.Value.{array, items_of}
+use Rattle.jv_data.specs.Value.{array, items_of}
 use Rattle.jv_data.specs.View.{items_view, view}
 use Rattle.jq_natives.specs.Arrays.{reverse_of}
 use Rattle.jv_data.proofs.shared.Levels.{view-List}

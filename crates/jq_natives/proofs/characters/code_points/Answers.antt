@@ -2,12 +2,12 @@ use Rattle.std.proofs.Common.{◌≡◌, ◌∙◌, ◌+◌, ◌++◌, ◌∷◌
 use Rattle.std.proofs.lemmas.List.{drop_more}
 use Rattle.std.proofs.lemmas.Str.{chars-nil}
 use Rattle.std.specs.Str.{chars}
-use Rattle.jv_meaning.specs.Text.{text_of}
+use Rattle.jv_data.specs.Text.{text_of}
 use Rattle.jv_data.specs.View.{items_view, view}
 use Rattle.jq_natives.specs.Texts.{code_points}
 use Rattle.jv_data.proofs.shared.Lists.{after_one_more}
 use Rattle.jq_natives.proofs.Prefixed.{after_nothing, code_point_first}
-use Rattle.jv_meaning.proofs.shared.Texts.{written_more}
+use Rattle.jv_data.proofs.shared.Texts.{written_more}
 use Rattle.jq_natives.proofs.characters.code_points.Goals as goal
 
 pub loop-item-init : goal.loop-item-init

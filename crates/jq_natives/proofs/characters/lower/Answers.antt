@@ -4,7 +4,7 @@ use Rattle.std.proofs.lemmas.Str.{chars-nil}
 use Rattle.std.specs.Str.{chars}
 use Rattle.std.specs.Char.{to_ascii_lowercase}
 use Rattle.jq_natives.specs.Texts.{ascii_lower}
-use Rattle.jv_meaning.proofs.shared.Texts.{all_read, read_more, written_more}
+use Rattle.jv_data.proofs.shared.Texts.{all_read, read_more, written_more}
 use Rattle.jq_natives.proofs.TextSteps.{made_more, lower_is}
 use Rattle.jq_natives.proofs.characters.lower.Goals as goal
 use lib.Utf8.{encode}

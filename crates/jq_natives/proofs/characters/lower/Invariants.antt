@@ -1,5 +1,5 @@
 use Rattle.std.proofs.Common.{◌≡◌, ◌++◌, map}
-use Rattle.jv_meaning.specs.Text.{text_of}
+use Rattle.jv_data.specs.Text.{text_of}
 use Rattle.jq_natives.specs.Texts.{ascii_lower}
 use Rattle.jq_natives.proofs.characters.lower.Given as goal
 use lib.Utf8.{encodes}

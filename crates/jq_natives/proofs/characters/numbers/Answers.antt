@@ -2,7 +2,7 @@ use Rattle.std.proofs.Common.{◌≡◌, ◌∙◌, ◌++◌, ◌∷◌, [], ap,
 use Rattle.std.proofs.lemmas.List.{map-append, nil_from_length}
 use Rattle.jv_data.specs.View.{view}
 use Rattle.jq_natives.specs.Answers.{count}
-use Rattle.jv_meaning.proofs.shared.Texts.{all_read, read_more}
+use Rattle.jv_data.proofs.shared.Texts.{all_read, read_more}
 use Rattle.jq_natives.proofs.TextSteps.{made_more}
 use Rattle.jq_natives.proofs.characters.numbers.Goals as goal
 

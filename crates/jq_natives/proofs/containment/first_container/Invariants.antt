@@ -1,7 +1,7 @@
 use Rattle.std.proofs.Common.{◌≡◌, length}
 use Rattle.std.specs.List.{list_any}
 use Rattle.jv_data.specs.View.{items_view, view}
-use Rattle.jv_meaning.specs.Value.{values_of}
+use Rattle.jv_data.specs.Value.{values_of}
 use Rattle.jq_natives.specs.Containment.{contained_in}
 use Rattle.jq_natives.proofs.containment.first_container.Given as goal
 

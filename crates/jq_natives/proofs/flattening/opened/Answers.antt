@@ -1,6 +1,6 @@
 use Rattle.std.proofs.Common.{◌≡◌, ◌∙◌, ◌+◌, ◌-◌, ◌<◌, ◌++◌, ◌∷◌, [], suc, ap, sym, rules, arith, append_assoc, map}
 use Rattle.std.proofs.lemmas.List.{map-append, nil_from_length}
-use Rattle.jv_meaning.specs.Value.{item}
+use Rattle.jv_data.specs.Value.{item}
 use Rattle.jv_data.specs.View.{items_view, view}
 use Rattle.jq_natives.specs.Arrays.{opened}
 use Rattle.jq_natives.specs.declared.flattening.Level.{Level}

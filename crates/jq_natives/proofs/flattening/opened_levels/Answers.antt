@@ -1,6 +1,6 @@
 use Rattle.std.proofs.Common.{◌∙◌, ap, sym, subst, Ok}
 use Rattle.jv_data.specs.Fails.{FailsAs}
-use Rattle.jv_meaning.specs.Value.{array, items_of}
+use Rattle.jv_data.specs.Value.{array, items_of}
 use Rattle.jv_data.specs.View.{items_view, view}
 use Rattle.jv_value.specs.Parts.{parts_of}
 use Rattle.jv_value.specs.Results.{map_ok}

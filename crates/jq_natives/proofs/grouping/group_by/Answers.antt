@@ -1,5 +1,5 @@
 use Rattle.std.proofs.Common.{◌∙◌, ap, sym, map, Ok}
-use Rattle.jv_meaning.specs.Value.{array, items_of}
+use Rattle.jv_data.specs.Value.{array, items_of}
 use Rattle.jq_natives.specs.Sorting.{array_of, groups, sorted}
 use Rattle.jq_natives.proofs.KeysInArrays.{array_of_ignores, groups_ignore}
 use Rattle.jq_natives.proofs.grouping.group_by.Goals as goal

@@ -1,5 +1,5 @@
 use Rattle.std.proofs.Common.{◌≡◌, ◌++◌, map}
-use Rattle.jv_meaning.specs.Value.{keys, string}
+use Rattle.jv_data.specs.Value.{keys, string}
 use Rattle.jv_data.specs.Held.{members_in}
 use Rattle.jv_data.specs.View.{members_view, view}
 use Rattle.jq_natives.proofs.keys.names.Given as goal

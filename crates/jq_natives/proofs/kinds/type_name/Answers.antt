@@ -1,6 +1,6 @@
 use Rattle.std.proofs.Common.{◌∙◌, ap, sym, Ok}
-use Rattle.jv_meaning.specs.Value.{string}
-use Rattle.jv_meaning.proofs.shared.Ascii.{ascii_chars}
+use Rattle.jv_data.specs.Value.{string}
+use Rattle.jv_data.proofs.shared.Ascii.{ascii_chars}
 use Rattle.jq_natives.proofs.kinds.type_name.Goals as goal
 
 pub returns : goal.returns

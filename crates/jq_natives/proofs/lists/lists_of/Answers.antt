@@ -1,6 +1,6 @@
 use Rattle.std.proofs.Common.{◌≡◌, ◌∙◌, ◌+◌, ◌++◌, ◌∷◌, [], ap, sym, rules, map, drop, option_map}
 use Rattle.std.proofs.lemmas.List.{drop_more, map-append}
-use Rattle.jv_meaning.specs.Value.{item}
+use Rattle.jv_data.specs.Value.{item}
 use Rattle.jv_data.specs.View.{items_view, view}
 use Rattle.jq_natives.specs.Lists.{lists_of}
 use Rattle.jq_natives.specs.private.Lists.{lists_in}

@@ -2,7 +2,7 @@ use Rattle.std.proofs.Common.{◌∙◌, ap, sym, subst, Ok}
 use Rattle.std.specs.Option.{option_map_or}
 use Rattle.jv_data.specs.Fails.{FailsAs}
 use Rattle.jv_data.specs.Shared.{text_in}
-use Rattle.jv_meaning.specs.Value.{number, string}
+use Rattle.jv_data.specs.Value.{number, string}
 use Rattle.jv_data.specs.View.{view}
 use Rattle.jv_number.specs.Number.{number_value}
 use Rattle.jq_natives.specs.Reading.{not_a_number, tonumber_of}

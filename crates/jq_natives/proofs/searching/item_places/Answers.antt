@@ -1,6 +1,6 @@
 use Rattle.std.proofs.Common.{◌∙◌, ap, sym, map}
-use Rattle.jv_meaning.proofs.Items.{values_of-items_of}
-use Rattle.jv_meaning.specs.Value.{array, items_of, values_of}
+use Rattle.jv_data.proofs.shared.Items.{values_of-items_of}
+use Rattle.jv_data.specs.Value.{array, items_of, values_of}
 use Rattle.jv_data.specs.View.{items_view, view}
 use Rattle.jq_natives.specs.Answers.{count, is_same}
 use Rattle.jq_natives.specs.Searching.{places_of}

@@ -2,7 +2,7 @@ use Rattle.std.proofs.Common.{◌≡◌, ◌∙◌, ◌-◌, ap, sym, subst, len
 use Rattle.std.specs.Option.{option_copied}
 use Rattle.std.specs.Prelude.{slice_get, unwrap_or}
 use Rattle.jv_data.specs.Shared.{items_in}
-use Rattle.jv_meaning.specs.Value.{null}
+use Rattle.jv_data.specs.Value.{null}
 use Rattle.jv_data.specs.View.{view}
 use Rattle.jq_natives.specs.Searching.{last_item}
 use Rattle.jq_natives.proofs.ListPlaces.{last_is}

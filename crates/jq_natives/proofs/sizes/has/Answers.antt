@@ -1,7 +1,7 @@
 use Rattle.std.proofs.Common.{◌≡◌, ◌∙◌, ap, sym, length, Ok, pos}
 use Rattle.std.specs.Prelude.{◌&&◌, int_le, int_lt}
 use Rattle.jv_data.specs.Shared.{items_in}
-use Rattle.jv_meaning.specs.Value.{boolean, values_of}
+use Rattle.jv_data.specs.Value.{boolean, values_of}
 use Rattle.jv_data.specs.View.{items_view, view}
 use Rattle.jq_natives.specs.Sizes.{has_of}
 use Rattle.jv_data.proofs.shared.Levels.{view-Bool, view-List, view-Num}

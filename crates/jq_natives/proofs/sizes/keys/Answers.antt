@@ -1,6 +1,6 @@
 use Rattle.std.proofs.Common.{◌∙◌, ap, sym, Ok}
 use Rattle.std.specs.List.{range_with_len}
-use Rattle.jv_meaning.specs.Value.{array, items_of}
+use Rattle.jv_data.specs.Value.{array, items_of}
 use Rattle.jv_data.specs.View.{items_view, view}
 use Rattle.jq_natives.specs.Answers.{counts}
 use Rattle.jq_natives.specs.Sizes.{keys_of}

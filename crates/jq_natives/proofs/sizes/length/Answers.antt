@@ -3,7 +3,7 @@ use Rattle.jv_data.specs.View.{view}
 use Rattle.jq_natives.specs.Answers.{count}
 use Rattle.jq_natives.specs.Sizes.{length_of}
 use Rattle.jv_data.proofs.shared.Levels.{members_held, view-List, view-Table}
-use Rattle.jv_meaning.specs.Value.{object}
+use Rattle.jv_data.specs.Value.{object}
 use Rattle.jv_data.proofs.shared.Views.{length-List, length-Table}
 use Rattle.jq_natives.proofs.sizes.length.Goals as goal
 

@@ -3,8 +3,8 @@ use Rattle.jv_data.specs.Fails.{FailsAs}
 use Rattle.jv_data.specs.Held.{values_in}
 use Rattle.jv_data.specs.Kind.{kind_of}
 use Rattle.jv_data.specs.Shared.{items_in}
-use Rattle.jv_meaning.proofs.Items.{values_of-items_of}
-use Rattle.jv_meaning.specs.Value.{array, items_of, values_of}
+use Rattle.jv_data.proofs.shared.Items.{values_of-items_of}
+use Rattle.jv_data.specs.Value.{array, items_of, values_of}
 use Rattle.jv_data.specs.View.{items_view, view}
 use Rattle.jq_natives.specs.private.SortedItems.{AreKeysOf}
 use Rattle.jq_natives.specs.Sorting.{keyed_answer}

@@ -2,7 +2,7 @@ use Rattle.std.proofs.Common.{◌≡◌, ◌∙◌, ◌+◌, ◌++◌, ◌∷◌
 use Rattle.std.proofs.lemmas.List.{map-append, take_all, take_more}
 use Rattle.std.specs.Option.{option_copied}
 use Rattle.std.specs.Prelude.{slice_get, unwrap_or}
-use Rattle.jv_meaning.specs.Value.{Value, array, items_of, null}
+use Rattle.jv_data.specs.Value.{Value, array, items_of, null}
 use Rattle.jv_data.specs.View.{items_view, view}
 use Rattle.jq_natives.specs.private.Lists.{lists_in}
 use Rattle.jq_natives.proofs.ListPlaces.{get-map, item_copied}

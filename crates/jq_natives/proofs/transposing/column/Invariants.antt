@@ -1,6 +1,6 @@
 use Rattle.std.proofs.Common.{◌≡◌, map, take}
 use Rattle.std.specs.Prelude.{slice_get, unwrap_or}
-use Rattle.jv_meaning.specs.Value.{null}
+use Rattle.jv_data.specs.Value.{null}
 use Rattle.jv_data.specs.View.{view}
 use Rattle.jq_natives.specs.private.Lists.{lists_in}
 use Rattle.jq_natives.proofs.transposing.column.Given as goal

@@ -1,9 +1,9 @@
 use Rattle.std.proofs.Common.{◌∙◌, map, ap}
-use Rattle.jv_meaning.specs.Text.{text_of}
+use Rattle.jv_data.specs.Text.{text_of}
 use Rattle.jq_ast.specs.Named.{named}
 use Rattle.jq_tree.specs.Tree.{trees_of}
 use Rattle.jq_meaning.specs.Env.{with_arguments}
-use Rattle.jq_machine.specs.Evaluating as machine
+use Rattle.jq_meaning.specs.machine.Evaluating as machine
 use Rattle.jq_state.specs.Environments.{count_of}
 use Rattle.jq_state.specs.Items.{item_of}
 use Rattle.jq_state.specs.Nodes.{env_at}

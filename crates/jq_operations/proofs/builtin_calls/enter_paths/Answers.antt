@@ -1,7 +1,7 @@
 use Rattle.std.proofs.Common.{◌∙◌, ◌<◌, length, ap, sym, subst, arith}
 use Rattle.jv_data.specs.View.{view}
 use Rattle.jq_ast.specs.Named.{named}
-use Rattle.jq_machine.specs.State.{evaluate}
+use Rattle.jq_meaning.specs.machine.State.{evaluate}
 use Rattle.jq_state.specs.Environments.{envs_of, count_of}
 use Rattle.jq_state.specs.Items.{item_at, item_of}
 use Rattle.jq_state.specs.Links.{scope_in}

@@ -2,9 +2,9 @@ use Rattle.std.proofs.Common.{◌≡◌, ◌∙◌, ◌++◌, List, ap, sym, sub
 use Rattle.std.specs.Result.{IfOk}
 use Rattle.jv_data.specs.Held.{values_in}
 use Rattle.jv_data.proofs.shared.Levels.{view-List}
-use Rattle.jv_meaning.specs.Value.{Value}
+use Rattle.jv_data.specs.Value.{Value}
 use Rattle.jv_data.specs.View.{view}
-use Rattle.jv_meaning.proofs.Items.{values_of-items_of}
+use Rattle.jv_data.proofs.shared.Items.{values_of-items_of}
 use Rattle.jq_meaning.specs.Builtins.{values_in_array}
 use Rattle.jq_state.specs.Items.{keys_of}
 use Rattle.jq_operations.proofs.builtins.with_keys_in.Goals as goal

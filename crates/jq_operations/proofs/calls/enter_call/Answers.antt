@@ -4,7 +4,7 @@ use Rattle.std.proofs.lemmas.Result.{IfOk-weaker}
 use Rattle.jq_ast.specs.Named.{name_of, named}
 use Rattle.jq_tree.specs.Tree.{trees_of, trees_count}
 use Rattle.jq_meaning.specs.Builtins.{builtin_named}
-use Rattle.jq_machine.specs.Evaluating.{enter_callee, enter_builtin}
+use Rattle.jq_meaning.specs.machine.Evaluating.{enter_callee, enter_builtin}
 use Rattle.jq_state.specs.Environments.{count_of}
 use Rattle.jq_state.specs.Inputs.{inputs_of}
 use Rattle.jq_state.specs.Items.{item_of}

@@ -1,6 +1,6 @@
 use Rattle.std.proofs.Common.{ap}
 use Rattle.jq_ast.specs.Named.{named}
-use Rattle.jq_machine.specs.State.{evaluate}
+use Rattle.jq_meaning.specs.machine.State.{evaluate}
 use Rattle.jq_state.specs.Items.{item_of}
 use Rattle.jq_operations.proofs.Transitions.{came}
 use Rattle.jq_operations.proofs.calls.enter_define.Goals as goal

@@ -2,8 +2,8 @@ use Rattle.std.proofs.Common.{◌∙◌, ◌<◌, map, ap, subst}
 use Rattle.std.proofs.lemmas.Result.{IfOk-weaker}
 use Rattle.jq_ast.specs.Named.{name_of, named}
 use Rattle.jq_tree.specs.Tree.{trees_of}
-use Rattle.jq_machine.specs.Evaluating.{enter_callee}
-use Rattle.jq_machine.specs.State.{state, go_back}
+use Rattle.jq_meaning.specs.machine.Evaluating.{enter_callee}
+use Rattle.jq_meaning.specs.machine.State.{state, go_back}
 use Rattle.jq_state.specs.Environments.{count_of}
 use Rattle.jq_state.specs.Items.{item_of}
 use Rattle.jq_state.specs.Links.{scope_in}

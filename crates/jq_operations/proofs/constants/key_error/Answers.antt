@@ -1,5 +1,5 @@
 use Rattle.std.proofs.Common.{◌∙◌, ap}
-use Rattle.jv_meaning.specs.Value.{string}
+use Rattle.jv_data.specs.Value.{string}
 use Rattle.jq_operations.proofs.Messages.{text-no_key}
 use Rattle.jq_operations.proofs.constants.key_error.Goals as goal
 

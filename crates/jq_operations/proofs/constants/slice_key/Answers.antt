@@ -1,7 +1,7 @@
 use Rattle.std.proofs.Common.{◌≡◌, ◌∙◌, string_bytes}
 use Rattle.jv_data.specs.Held.{members_in}
 use Rattle.jv_data.proofs.shared.Levels.{view-Table}
-use Rattle.jv_meaning.specs.Value.{no_members}
+use Rattle.jv_data.specs.Value.{no_members}
 use Rattle.jv_data.specs.View.{view}
 use Rattle.jq_operations.proofs.SliceKeys.{slice_members}
 use Rattle.jq_operations.proofs.constants.slice_key.Goals as goal

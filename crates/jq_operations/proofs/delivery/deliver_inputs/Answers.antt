@@ -4,7 +4,7 @@ use Rattle.jv_data.specs.View.{view}
 use Rattle.jq_meaning.specs.Builtins.{plain_items}
 use Rattle.jq_meaning.specs.Env.{find_inputs}
 use Rattle.jq_meaning.specs.Runs.{plain}
-use Rattle.jq_machine.specs.State.{give, remaining, fork, state}
+use Rattle.jq_meaning.specs.machine.State.{give, remaining, fork, state}
 use Rattle.jq_state.specs.Environments.{count_of}
 use Rattle.jq_state.specs.Forks.{run_after}
 use Rattle.jq_state.specs.Inputs.{inputs_of}

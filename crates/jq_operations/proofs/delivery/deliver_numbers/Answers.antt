@@ -2,11 +2,11 @@ use Rattle.std.proofs.Common.{◌≡◌, ◌<◌, ◌∷◌, [], ℤ, IsTrue, fa
 use Rattle.std.specs.Prelude.{FitsSigned}
 use Rattle.std.proofs.lemmas.Int.{to_z-of_z}
 use Rattle.jv_data.proofs.shared.Levels.{view-Num}
-use Rattle.jv_meaning.specs.Value.{Value, number}
+use Rattle.jv_data.specs.Value.{Value, number}
 use Rattle.jq_meaning.specs.Builtins.{steps_between, numbers_up_to}
 use Rattle.jq_meaning.specs.Runs.{Run, Item, plain, before}
-use Rattle.jq_machine.specs.Operations.{deliver}
-use Rattle.jq_machine.specs.State.{give, remaining, fork, State, state}
+use Rattle.jq_meaning.specs.machine.Operations.{deliver}
+use Rattle.jq_meaning.specs.machine.State.{give, remaining, fork, State, state}
 use Rattle.jq_state.specs.Items.{item_of}
 use Rattle.jq_state.specs.Views.{frames_in, forks_in}
 use Rattle.jq_operations.proofs.Coming.{same_goal}

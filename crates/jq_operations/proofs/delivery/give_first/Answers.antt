@@ -1,5 +1,5 @@
 use Rattle.std.proofs.Common.{◌∷◌, map, refl, ap, ◌∙◌}
-use Rattle.jq_machine.specs.State.{fork}
+use Rattle.jq_meaning.specs.machine.State.{fork}
 use Rattle.jq_state.specs.Forks.{choice_in}
 use Rattle.jq_state.specs.Items.{item_of}
 use Rattle.jq_state.specs.Views.{envs_in, frames_in, forks_in}

@@ -1,6 +1,6 @@
 use Rattle.std.proofs.Common.{ap}
 use Rattle.jq_ast.specs.Named.{named}
-use Rattle.jq_machine.specs.State.{evaluate}
+use Rattle.jq_meaning.specs.machine.State.{evaluate}
 use Rattle.jq_state.specs.Links.{scope_in}
 use Rattle.jq_state.specs.Views.{envs_in}
 use Rattle.jq_state.specs.declared.next.Next.TheVariants.{Evaluate}

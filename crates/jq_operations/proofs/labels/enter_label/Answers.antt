@@ -1,8 +1,8 @@
 use Rattle.std.proofs.Common.{◌∙◌, ◌+◌, ◌∷◌, ap, sym, add-one}
-use Rattle.jv_meaning.specs.Text.{text_of}
+use Rattle.jv_data.specs.Text.{text_of}
 use Rattle.jq_ast.specs.Named.{named}
 use Rattle.jq_meaning.specs.Env.{bound, label_of}
-use Rattle.jq_machine.specs.State.{evaluate, label_body}
+use Rattle.jq_meaning.specs.machine.State.{evaluate, label_body}
 use Rattle.jq_state.specs.Environments.{envs_of}
 use Rattle.jq_state.specs.Items.{item_of}
 use Rattle.jq_state.specs.Nodes.{env_at}

@@ -1,9 +1,9 @@
 use Rattle.std.proofs.Common.{◌∙◌, ap, sym}
 use Rattle.jv_arith.specs.Arith.{neg_of}
 use Rattle.jv_data.proofs.shared.Levels.{view-Bool}
-use Rattle.jv_meaning.specs.Value.{boolean}
+use Rattle.jv_data.specs.Value.{boolean}
 use Rattle.jv_data.specs.View.{view}
-use Rattle.jq_machine.specs.Operations.{result_of}
+use Rattle.jq_meaning.specs.machine.Operations.{result_of}
 use Rattle.jq_meaning.specs.Continuations.{truth, negated}
 use Rattle.jq_meaning.specs.Runs.{one, plain}
 use Rattle.jq_natives.specs.Answers.{is_true}

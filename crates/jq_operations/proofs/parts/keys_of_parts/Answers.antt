@@ -5,9 +5,9 @@ use Rattle.std.proofs.lemmas.List.{length-map}
 use Rattle.jv_data.specs.Held.{values_in}
 use Rattle.jv_data.proofs.shared.Levels.{view-List}
 use Rattle.jv_data.specs.Shared.{items_in}
-use Rattle.jv_meaning.specs.Value.{number}
+use Rattle.jv_data.specs.Value.{number}
 use Rattle.jv_data.specs.View.{view}
-use Rattle.jv_meaning.proofs.Items.{values_of-items_of}
+use Rattle.jv_data.proofs.shared.Items.{values_of-items_of}
 use Rattle.jq_natives.specs.Answers.{part_keys}
 use Rattle.jq_operations.proofs.parts.keys_of_parts.Goals as goal
 

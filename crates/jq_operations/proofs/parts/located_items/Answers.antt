@@ -1,6 +1,6 @@
 use Rattle.std.proofs.Common.{◌≡◌, ◌∙◌, ◌++◌, ◌∷◌, [], List, ap, sym, map, option_map, length, arith}
 use Rattle.std.proofs.lemmas.List.{length-append, length-map, map-append}
-use Rattle.jv_meaning.specs.Value.{Value}
+use Rattle.jv_data.specs.Value.{Value}
 use Rattle.jv_data.specs.View.{view}
 use Rattle.jq_state.specs.Items.{item_at, item_of}
 use Rattle.jq_operations.proofs.Pairs.{last_made}

@@ -1,6 +1,6 @@
 use Rattle.std.proofs.Common.{◌≡◌, ◌++◌, ◌∷◌, [], length, map, option_map, reverse}
 use Rattle.std.specs.Prelude.{zip}
-use Rattle.jv_meaning.specs.Value.{Value}
+use Rattle.jv_data.specs.Value.{Value}
 use Rattle.jv_data.specs.View.{view}
 use Rattle.jq_meaning.specs.Runs.{Item}
 use Rattle.jq_state.specs.Items.{item_at, item_of, keys_of}

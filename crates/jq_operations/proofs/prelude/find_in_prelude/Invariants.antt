@@ -1,5 +1,5 @@
 use Rattle.std.proofs.Common.{◌≡◌, ◌<◌}
-use Rattle.jv_meaning.specs.Value.{Value}
+use Rattle.jv_data.specs.Value.{Value}
 use Rattle.jq_ast.specs.Named.{name_of}
 use Rattle.jq_meaning.specs.Env.{callee_or, find_in_prelude}
 use Rattle.jq_meaning.specs.Runs.{Run}

@@ -1,6 +1,6 @@
 use Rattle.std.proofs.Common.{◌≡◌, ◌∙◌, ap, sym, pos, arith}
 use Rattle.std.proofs.lemmas.Int.{ints}
-use Rattle.jv_meaning.specs.Value.{string}
+use Rattle.jv_data.specs.Value.{string}
 use Rattle.jq_meaning.specs.Builtins.{numbers_between}
 use Rattle.jq_meaning.specs.Runs.{Item, fail}
 use Rattle.jq_operations.proofs.Messages.{text-no_step}

@@ -1,9 +1,9 @@
 use Rattle.std.proofs.Common.{◌<◌}
-use Rattle.jv_meaning.specs.Value.{Value}
+use Rattle.jv_data.specs.Value.{Value}
 use Rattle.jq_meaning.specs.Runs.{Run}
 use Rattle.jq_state.specs.Environments.{count_of, envs_of}
 use Rattle.jq_state.specs.Nodes.{env_at}
-use Rattle.jq_update_laws.specs.Known.{HasModify}
+use Rattle.jq_meaning.specs.updates.Known.{HasModify}
 use Rattle.jq_operations.proofs.updates.has_modify.Given as goal
 
 abbrev pub invariant-loop-node : goal.invariant-loop-node

@@ -1,7 +1,7 @@
 use Rattle.std.proofs.Common.{refl}
 use Rattle.std.proofs.KnownBytes.{Appends-kept}
 use Rattle.jq_devices.proofs.shared.Failures.{failed_after}
-use Rattle.jv_meaning.proofs.shared.Results.{error_returned}
+use Rattle.jv_data.proofs.shared.Results.{error_returned}
 use Rattle.jq_run.proofs.shared.Reporting.{note_stopped}
 use Rattle.jq_run.proofs.refusals.refuse.Goals as goal
 

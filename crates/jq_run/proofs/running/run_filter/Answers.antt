@@ -3,7 +3,7 @@ use Rattle.std.specs.Str.{chars}
 use Rattle.jq_devices.specs.Watched.{device_of}
 use Rattle.jq_stream.specs.Streams.{streams_of}
 use Rattle.jq_syntax.specs.Chosen.{chosen}
-use Rattle.jv_meaning.proofs.shared.Results.{if_err_map, if_ok_map, if_other}
+use Rattle.jv_data.proofs.shared.Results.{if_err_map, if_ok_map, if_other}
 use Rattle.jq_run.proofs.shared.FilterRefusals.{filter_refusal, filter_refusal_stopped, filter_refused}
 use Rattle.jq_run.proofs.shared.Reporting.{report_answered, report_stopped}
 use Rattle.jq_run.proofs.running.run_filter.Goals as goal

@@ -3,7 +3,7 @@ use Rattle.std.proofs.lemmas.Grind.{common_steps}
 use Rattle.jq_devices.proofs.shared.Failures.{failed_after}
 use Rattle.jq_devices.specs.Watched.{device_of}
 use Rattle.jq_devices.specs.declared.faults.StreamFault.TheVariants.{NoMemory}
-use Rattle.jv_meaning.proofs.shared.Results.{error_returned, if_err_map, if_other, on_err, on_err_map, on_ok_map}
+use Rattle.jv_data.proofs.shared.Results.{error_returned, if_err_map, if_other, on_err, on_err_map, on_ok_map}
 use Rattle.jq_script.specs.Serving.{serving, IsStopped, point_of}
 use Rattle.jq_script.proofs.Going.{consumed_bytes, going_begun, going_on, going_served, last_stopped, nothing_read, one_pass_begun, one_pass_last, one_pass_piece, one_pass_read, piece_stopped, read_stopped, result_stopped, short_piece, stopped_by, unbegun}
 use Rattle.jq_script.proofs.serving.serve.Goals as goal

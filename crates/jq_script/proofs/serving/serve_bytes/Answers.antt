@@ -1,5 +1,5 @@
 use Rattle.std.proofs.Common.{◌∙◌, refl}
-use Rattle.jv_meaning.proofs.shared.Results.{error_returned, on_err}
+use Rattle.jv_data.proofs.shared.Results.{error_returned, on_err}
 use Rattle.jq_devices.proofs.shared.Failures.{failed_after}
 use Rattle.jq_script.proofs.Going.{amid_begun, amid_ended, amid_line, amid_stopped, line_stopped}
 use Rattle.jq_script.proofs.serving.serve_bytes.Goals as goal

@@ -1,7 +1,7 @@
 use Rattle.std.proofs.Common.{◌≡◌, ◌==◌, ◌∙◌, ◌∷◌, [], List, ℕ, false, length, sym, subst}
 use Rattle.std.proofs.lemmas.Bool.{cond-false}
 use Rattle.jq_devices.specs.Watched.{device_of}
-use Rattle.jv_meaning.proofs.shared.Results.{on_err_map, on_ok_map}
+use Rattle.jv_data.proofs.shared.Results.{on_err_map, on_ok_map}
 use Rattle.jq_script.specs.Serving.{Answers, AnswersFirst, progress, point_of}
 use Rattle.jq_script.specs.private.Lines.{last_line}
 use Rattle.jq_script.proofs.serving.serve_last.Goals as goal

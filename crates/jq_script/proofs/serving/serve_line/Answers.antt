@@ -1,5 +1,5 @@
 use Rattle.jq_devices.specs.Watched.{device_of}
-use Rattle.jv_meaning.proofs.shared.Results.{on_err_map, on_ok_map}
+use Rattle.jv_data.proofs.shared.Results.{on_err_map, on_ok_map}
 use Rattle.jq_script.specs.Serving.{point_of, progress}
 use Rattle.jq_script.specs.private.Reading.{instruction_in}
 use Rattle.jq_script.proofs.Turning.{line_answered, line_first}

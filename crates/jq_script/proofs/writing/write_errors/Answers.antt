@@ -3,7 +3,7 @@ use Rattle.jq_devices.proofs.shared.Failures.{failed_after}
 use Rattle.jq_devices.specs.Watched.{device_of}
 use Rattle.jq_session.specs.Sessions.{state_of}
 use Rattle.jq_session.specs.States.{outcome}
-use Rattle.jv_meaning.proofs.shared.Results.{err_mapped, if_err_map, ok_mapped, on_err}
+use Rattle.jv_data.proofs.shared.Results.{err_mapped, if_err_map, ok_mapped, on_err}
 use Rattle.jq_script.proofs.Turning.{number_first, bytes_first}
 use Rattle.jq_script.proofs.writing.write_errors.Goals as goal
 

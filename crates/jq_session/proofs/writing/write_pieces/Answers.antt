@@ -6,7 +6,7 @@ use Rattle.jq_devices.specs.Writing.{AppendsFirst}
 use Rattle.jq_pages.specs.Contents.{folded_of, paged_in}
 use Rattle.jq_pages.specs.Folds.{head, pieces, tail}
 use Rattle.jq_pages.specs.Pieces.{piece_view}
-use Rattle.jv_meaning.proofs.shared.Results.{on_err, on_err_map, on_ok_map}
+use Rattle.jv_data.proofs.shared.Results.{on_err, on_err_map, on_ok_map}
 use Rattle.jq_session.specs.private.Parts.{part_in}
 use Rattle.jq_session.specs.private.Writing.{IsPassed}
 use Rattle.jq_session.proofs.Passing.{all_are, head_first, joined_pages, page_first, pages_ended, pages_next, passed_first, passed_last, passed_last_first, passed_more}

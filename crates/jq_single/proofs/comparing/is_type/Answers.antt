@@ -2,7 +2,7 @@ use Rattle.std.proofs.Common.{◌∙◌, ap, sym, string_bytes, codes, refl}
 use Rattle.std.proofs.lemmas.Slice.Eq.{bytes_eq-Decides}
 use Rattle.std.proofs.lemmas.Str.{IsUtf8-string_bytes}
 use Rattle.std.specs.Str.{bytes_eq}
-use Rattle.jv_meaning.proofs.shared.Ascii.{same_as_ascii}
+use Rattle.jv_data.proofs.shared.Ascii.{same_as_ascii}
 use Rattle.jq_ast.specs.Named.{name_of}
 use Rattle.jq_single.proofs.comparing.is_type.Goals as goal
 

@@ -1,5 +1,5 @@
 use Rattle.std.proofs.Common.{◌≡◌, ◌∙◌, map, ap, sym, refl, arith}
-use Rattle.jv_meaning.specs.Text.{text_of}
+use Rattle.jv_data.specs.Text.{text_of}
 use Rattle.jq_ast.specs.Named.{name_of, named}
 use Rattle.jq_tree.specs.Tree.{trees_of}
 use Rattle.jq_meaning.specs.Env.{Env, Callee, find_callee, with_arguments}

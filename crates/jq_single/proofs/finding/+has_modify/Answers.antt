@@ -1,11 +1,11 @@
 use Rattle.std.proofs.Common.{ap, map, sym, subst}
 use Rattle.std.proofs.Math.Logic.{∥∥₁_map}
 use Rattle.jv_data.specs.View.{view}
-use Rattle.jv_meaning.specs.Text.{text_of}
+use Rattle.jv_data.specs.Text.{text_of}
 use Rattle.jq_ast.specs.Named.{named}
 use Rattle.jq_tree.specs.Tree.{trees_of}
 use Rattle.jq_meaning.specs.Env as env
-use Rattle.jq_update_laws.specs.Known.{HasModify}
+use Rattle.jq_meaning.specs.updates.Known.{HasModify}
 use Rattle.jq_single.specs.private.Scopes.{scope_env}
 use Rattle.jq_single.proofs.UpdateTurns.{modify_in_call}
 use Rattle.jq_single.proofs.finding.+has_modify.Goals as goal

@@ -1,5 +1,5 @@
 use Rattle.std.proofs.Common.{◌≡◌, ◌∙◌, map, ap, sym, subst}
-use Rattle.jv_meaning.specs.Text.{text_of}
+use Rattle.jv_data.specs.Text.{text_of}
 use Rattle.jq_ast.specs.Named.{name_of, named}
 use Rattle.jq_tree.specs.Tree.{trees_of}
 use Rattle.jq_meaning.specs.Env.{Env, Callee, callee_or, find_in_prelude}

@@ -1,7 +1,7 @@
 use Rattle.std.proofs.Common.{◌∙◌, [], ap, sym}
 use Rattle.std.specs.Str.{chars}
 use Rattle.jv_data.proofs.shared.Levels.{view-Text}
-use Rattle.jv_meaning.specs.Value.{Value}
+use Rattle.jv_data.specs.Value.{Value}
 use Rattle.jv_data.specs.View.{view}
 use Rattle.jq_ast.specs.Named.{name_of}
 use Rattle.jq_meaning.specs.Continuations.{format_of, text_item}

@@ -1,7 +1,7 @@
 use Rattle.std.proofs.Common.{◌∙◌, ap, string_bytes}
 use Rattle.std.specs.Str.{bytes_eq}
 use Rattle.std.proofs.lemmas.Str.{IsUtf8-string_bytes}
-use Rattle.jv_meaning.proofs.shared.Texts.{same_characters}
+use Rattle.jv_data.proofs.shared.Texts.{same_characters}
 use Rattle.jq_state.proofs.names.is_text.Goals as goal
 
 pub returns : goal.returns

@@ -1,5 +1,5 @@
 use Rattle.std.proofs.Common.{◌∙◌, ap, sym}
-use Rattle.jv_meaning.specs.Value.{string}
+use Rattle.jv_data.specs.Value.{string}
 use Rattle.jq_meaning.specs.Runs.{Raised}
 use Rattle.jq_stream.specs.private.Gathering.{stop_ending}
 use Rattle.jq_stream.proofs.running.inputs_fault.Goals as goal

@@ -1,4 +1,4 @@
-use Rattle.jv_meaning.proofs.shared.Results.{on_err}
+use Rattle.jv_data.proofs.shared.Results.{on_err}
 use Rattle.jq_stream.proofs.Once.{nothing_written}
 use Rattle.jq_stream.proofs.running.run_on_array.Goals as goal
 

@@ -1,5 +1,5 @@
 use Rattle.std.proofs.Common.{◌≤◌, length, ◌++◌, [], sym, ◌∙◌, arith, refl}
-use Rattle.jv_meaning.proofs.shared.Results.{error_returned, if_other}
+use Rattle.jv_data.proofs.shared.Results.{error_returned, if_other}
 use Rattle.jq_devices.proofs.shared.Failures.{failed_after}
 use Rattle.jq_devices.proofs.shared.Writing.{first_result}
 use Rattle.jq_devices.specs.declared.faults.StreamFault.TheVariants.{NoMemory}

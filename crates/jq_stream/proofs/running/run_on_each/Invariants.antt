@@ -1,5 +1,5 @@
 use Rattle.std.proofs.Common.{◌≡◌, ◌≤◌, ◌*◌, ◌-◌, ◌^◌, ℕ, List, false, vec_len}
-use Rattle.jv_meaning.specs.Value.{Value}
+use Rattle.jv_data.specs.Value.{Value}
 use Rattle.jv_text.specs.Cutting.{AllGiven, is_finished, fed_count}
 use Rattle.jq_devices.specs.Watched.{failures_of, reads_left}
 use Rattle.jq_filters.specs.Runner.{job_of}

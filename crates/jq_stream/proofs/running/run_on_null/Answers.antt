@@ -1,6 +1,6 @@
 use Rattle.std.proofs.Common.{rules, true, map, ap, refl}
 use Rattle.jv_data.specs.View.{view}
-use Rattle.jv_meaning.proofs.shared.Results.{error_returned, if_err_map, if_other}
+use Rattle.jv_data.proofs.shared.Results.{error_returned, if_err_map, if_other}
 use Rattle.jq_devices.specs.Watched.{device_of}
 use Rattle.jq_devices.specs.declared.faults.StreamFault.TheVariants.{NoMemory}
 use Rattle.jq_filters.specs.Outcomes.{on_null}

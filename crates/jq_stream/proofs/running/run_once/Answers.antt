@@ -1,5 +1,5 @@
 use Rattle.std.proofs.Common.{◌∙◌}
-use Rattle.jv_meaning.proofs.shared.Results.{error_returned, on_err}
+use Rattle.jv_data.proofs.shared.Results.{error_returned, on_err}
 use Rattle.jq_stream.proofs.Answering.{first_of_written}
 use Rattle.jq_stream.proofs.Once.{once_ran, once_stopped, nothing_written, either_run}
 use Rattle.jq_stream.proofs.Blaming.{after_result, then_none}

@@ -1,7 +1,7 @@
 use Rattle.std.proofs.Common.{◌≡◌, ◌∙◌, rules, false, ap}
 use Rattle.std.proofs.lemmas.Result.{IfOk-weaker}
 use Rattle.jq_state.specs.Inputs.{inputs_of}
-use Rattle.jv_meaning.proofs.shared.Results.{if_err_map, if_other}
+use Rattle.jv_data.proofs.shared.Results.{if_err_map, if_other}
 use Rattle.jq_filters.specs.Outcomes.{on_null}
 use Rattle.jq_filters.specs.Runner.{job_of, mode_of}
 use Rattle.jq_stream.specs.Streams.{streams_of}

@@ -1,5 +1,5 @@
 use Rattle.std.proofs.Common.{◌≡◌, ◌∙◌, ◌<◌, ◌≤◌, ◌+◌, length, arith, refl, sym, subst}
-use Rattle.jv_meaning.proofs.shared.Results.{on_err}
+use Rattle.jv_data.proofs.shared.Results.{on_err}
 use Rattle.jq_starts.specs.Starts.{HasStarted}
 use Rattle.jq_filters.specs.Runner.{job_of}
 use Rattle.jq_stream.proofs.Answering.{answered_none}

@@ -1,5 +1,5 @@
 use Rattle.std.proofs.Common.{rules, ◌≡◌, map, ap, sym, ◌∙◌}
-use Rattle.jv_meaning.specs.Text.{text_of}
+use Rattle.jv_data.specs.Text.{text_of}
 use Rattle.jq_ast.specs.Named.{named}
 use Rattle.jq_tree.specs.Tree as tree
 use Rattle.jq_tree.specs.Prelude.{followed_by}

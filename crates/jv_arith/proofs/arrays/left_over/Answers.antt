@@ -1,7 +1,7 @@
 use Rattle.std.proofs.Common.{◌≡◌, ◌∙◌, ◌++◌, [], ap, sym, arith, map, drop}
 use Rattle.std.proofs.lemmas.List.{drop_all, append-nil}
 use Rattle.jv_data.specs.Held.{values_in}
-use Rattle.jv_meaning.specs.Value.{items_of}
+use Rattle.jv_data.specs.Value.{items_of}
 use Rattle.jv_data.specs.View.{view}
 use Rattle.jv_arith.proofs.Items.{kept, left_over-items_of}
 use Rattle.jv_arith.proofs.arrays.left_over.Goals as goal

@@ -1,7 +1,7 @@
 use Rattle.std.proofs.Common.{◌≡◌, ap, sym, Ok, rules}
 use Rattle.jv_data.specs.Held.{members_in}
 use Rattle.jv_data.proofs.shared.Levels.{view-Table}
-use Rattle.jv_meaning.specs.Value.{object}
+use Rattle.jv_data.specs.Value.{object}
 use Rattle.jv_data.specs.declared.values.Val as val
 use Rattle.jv_arith.specs.Objects.{union}
 use Rattle.jv_arith.proofs.operators.add_to.Goals as goal

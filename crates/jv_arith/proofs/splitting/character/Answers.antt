@@ -1,5 +1,5 @@
 use Rattle.std.proofs.Common.{◌≡◌, ◌∙◌, ap, rules, string_bytes}
-use Rattle.jv_meaning.specs.Value.{string}
+use Rattle.jv_data.specs.Value.{string}
 use Rattle.jv_arith.proofs.Parts.{chars_of_one}
 use Rattle.jv_arith.proofs.splitting.character.Goals as goal
 use lib.Utf8.{encode}

@@ -1,9 +1,9 @@
 use Rattle.std.proofs.Common.{◌≡◌, ◌∙◌, ◌++◌, ◌∷◌, [], ap, map}
 use Rattle.std.proofs.lemmas.List.{map-append, nil_from_length}
-use Rattle.jv_meaning.specs.Value.{string}
+use Rattle.jv_data.specs.Value.{string}
 use Rattle.jv_data.specs.View.{view}
 use Rattle.jv_arith.specs.Strings.{single}
-use Rattle.jv_meaning.proofs.shared.Texts.{all_read, read_more}
+use Rattle.jv_data.proofs.shared.Texts.{all_read, read_more}
 use Rattle.jv_arith.proofs.Parts.{singles_more}
 use Rattle.jv_arith.proofs.splitting.characters.Goals as goal
 

@@ -1,6 +1,6 @@
 use Rattle.std.proofs.Common.{◌≡◌, ◌++◌, map, length, zero}
 use Rattle.std.specs.Str.{chars, IsUtf8}
-use Rattle.jv_meaning.specs.Value.{string}
+use Rattle.jv_data.specs.Value.{string}
 use Rattle.jv_data.specs.View.{view}
 use Rattle.jv_arith.specs.Strings.{parts_after}
 use Rattle.jv_arith.proofs.splitting.parts_between.Given as goal

@@ -2,7 +2,7 @@ use Rattle.std.proofs.Common.{◌≡◌, ◌∙◌, ◌<◌, [], length, map, ap
 use Rattle.std.proofs.lemmas.List.{nil_from_length}
 use Rattle.std.proofs.lemmas.Str.{chars-nil}
 use Rattle.std.specs.Str.{chars}
-use Rattle.jv_meaning.specs.Value.{string}
+use Rattle.jv_data.specs.Value.{string}
 use Rattle.jv_data.specs.View.{view}
 use Rattle.jv_arith.specs.Strings.{split_of}
 use Rattle.jv_arith.proofs.Parts.{some_bytes, some_text, split_of_singles, split_of_parts}

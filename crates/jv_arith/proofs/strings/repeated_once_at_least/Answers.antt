@@ -4,7 +4,7 @@ use Rattle.std.proofs.lemmas.List.{nil_from_length}
 use Rattle.std.proofs.lemmas.Str.{chars-nil}
 use Rattle.std.specs.Str.{chars}
 use Rattle.jv_data.specs.Fails.{FailsAs}
-use Rattle.jv_meaning.specs.Value.{string}
+use Rattle.jv_data.specs.Value.{string}
 use Rattle.jv_arith.proofs.Repeats.{repeated-short, repeated-long, repeated_nil, not_large}
 use Rattle.jv_arith.specs.Strings.{repeated, repeat_limit}
 use Rattle.jv_arith.proofs.strings.repeated_once_at_least.Goals as goal

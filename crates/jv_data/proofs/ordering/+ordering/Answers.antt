@@ -1,5 +1,5 @@
 use Rattle.std.proofs.Common.{◌≡◌, ◌∙◌, ap, arith, rules}
-use Rattle.jv_meaning.specs.Value.{string}
+use Rattle.jv_data.specs.Value.{string}
 use Rattle.jv_data.specs.Shared.{bytes_in, text_in}
 use Rattle.jv_data.specs.View.{view}
 use Rattle.jv_data.specs.declared.containers.texts.SharedText.{SharedText}

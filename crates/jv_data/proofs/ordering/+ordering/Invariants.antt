@@ -1,6 +1,6 @@
 use Rattle.std.proofs.Common.{◌≡◌, ◌≤◌, drop}
 use Rattle.std.specs.Slice.Iter.{iter_rest}
-use Rattle.jv_meaning.specs.Value.{compare_items, compare_members}
+use Rattle.jv_data.specs.Value.{compare_items, compare_members}
 use Rattle.jv_data.proofs.shared.Depths.{depth_under}
 use Rattle.jv_data.specs.Held.{members_in}
 use Rattle.jv_data.specs.Shared.{entries_in}

@@ -4,8 +4,8 @@ use Rattle.std.specs.Ordering.{ordering_then}
 use Rattle.jv_data.proofs.Utf8.{chars-cmp}
 use Rattle.jv_data.proofs.Views.{first_decides}
 use Rattle.jv_data.specs.View.{members_view}
-use Rattle.jv_meaning.specs.Text.{text_of}
-use Rattle.jv_meaning.specs.Value.{keys, text_cmp}
+use Rattle.jv_data.specs.Text.{text_of}
+use Rattle.jv_data.specs.Value.{keys, text_cmp}
 use Rattle.jv_data.proofs.ordering.order_keys.Goals as goal
 
 pub loop-key-preserved : goal.loop-key-preserved

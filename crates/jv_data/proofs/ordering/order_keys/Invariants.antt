@@ -2,7 +2,7 @@ use Rattle.std.proofs.Common.{◌≡◌}
 use Rattle.std.specs.Cmp.Lexicographic.{slice_cmp}
 use Rattle.jv_data.specs.Held.{members_in}
 use Rattle.jv_data.specs.View.{members_view}
-use Rattle.jv_meaning.specs.Value.{keys, text_cmp}
+use Rattle.jv_data.specs.Value.{keys, text_cmp}
 use Rattle.jv_data.proofs.ordering.order_keys.Given as goal
 
 -- the result depends on the remaining keys

@@ -1,7 +1,7 @@
 use Rattle.std.proofs.Common.{◌≡◌, ◌∙◌, ap}
 use Rattle.std.specs.Ordering.{is_eq}
-use Rattle.jv_meaning.proofs.Order.{same_Decides}
-use Rattle.jv_meaning.specs.Value.{compare}
+use Rattle.jv_data.proofs.shared.Order.{same_Decides}
+use Rattle.jv_data.specs.Value.{compare}
 use Rattle.jv_data.specs.View.{view}
 use Rattle.jv_data.proofs.ordering.same.Goals as goal
 

@@ -1,7 +1,7 @@
 use Rattle.std.proofs.Common.{◌≡◌, subst, IfOk}
-use Rattle.jv_meaning.specs.Value.{string}
+use Rattle.jv_data.specs.Value.{string}
 use Rattle.jv_data.specs.View.{view}
-use Rattle.jv_meaning.proofs.shared.Ascii.{ascii_chars}
+use Rattle.jv_data.proofs.shared.Ascii.{ascii_chars}
 use Rattle.jv_data.proofs.raising.message.Goals as goal
 
 pub returns : goal.returns

@@ -1,6 +1,6 @@
 use Rattle.std.proofs.Common.{◌≡◌, ◌∙◌, ◌++◌, ap, ap₂, rules, subst, string_bytes, IfOk}
 use Rattle.std.specs.Str.{chars}
-use Rattle.jv_meaning.specs.Value.{string}
+use Rattle.jv_data.specs.Value.{string}
 use Rattle.jv_data.specs.View.{view}
 use Rattle.jv_data.proofs.Messages.{five_chars}
 use Rattle.jv_data.proofs.raising.with_kinds.Goals as goal

@@ -8,7 +8,7 @@ use Rattle.serde_json.specs.declared.value.Value.{the_lemmas}
 use Rattle.serde_json.specs.View.{view as data_view, items_view as data_items, members_view as data_members}
 use Rattle.jv_data.proofs.shared.Levels.{members_held, view-Table}
 use Rattle.jv_data.specs.View.{view, members_view}
-use Rattle.jv_meaning.specs.Value.{object}
+use Rattle.jv_data.specs.Value.{object}
 use Rattle.jv_text.specs.Json.{value_of, items_of, members_of}
 use Rattle.jv_text.proofs.Fronts.{before_items, before_members, all_items, all_members, items_step, members_step, insert_entry_last, keys-push}
 use Rattle.jv_text.proofs.reading.+converting.Goals as goal

@@ -5,8 +5,8 @@ use Rattle.json.specs.Json.{after_end_array, read_key, value}
 use Rattle.json.specs.Reads.{token_of}
 use Rattle.json.proofs.Grammar.{read_key-shorter, read_key_is, closed_array}
 use Rattle.jv_data.proofs.shared.Levels.{view-Null, view-Bool, view-Num, view-List, view-Table}
-use Rattle.jv_meaning.specs.Members.{put}
-use Rattle.jv_meaning.specs.Value.{array}
+use Rattle.jv_data.specs.Members.{put}
+use Rattle.jv_data.specs.Value.{array}
 use Rattle.std.specs.Str.{chars}
 use Rattle.jv_data.specs.declared.values.Val.TheVariants.{Num}
 use Rattle.jv_data.specs.Drafts.{drafted}

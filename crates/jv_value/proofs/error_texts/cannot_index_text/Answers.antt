@@ -2,7 +2,7 @@ use Rattle.std.proofs.Common.{◌≡◌, ◌∙◌, ◌++◌, codes, ap, append_
 use Rattle.std.specs.Str.{chars}
 use Rattle.json.specs.Print.{quoted}
 use lib.Utf8.{encodes}
-use Rattle.jv_meaning.proofs.shared.Ascii.{both_ascii, text_after_ascii}
+use Rattle.jv_data.proofs.shared.Ascii.{both_ascii, text_after_ascii}
 use Rattle.jv_value.specs.ErrorTexts.{cannot_index}
 use Rattle.jv_value.proofs.error_texts.cannot_index_text.Goals as goal
 

@@ -2,7 +2,7 @@ use Rattle.std.proofs.Common.{◌≡◌, ◌∙◌, ap, sym, rules, length, map,
 use Rattle.std.proofs.lemmas.List.{length-map}
 use Rattle.jv_data.specs.Held.{members_in}
 use Rattle.jv_data.specs.View.{view}
-use Rattle.jv_meaning.specs.Value.{array, items_of}
+use Rattle.jv_data.specs.Value.{array, items_of}
 use Rattle.jv_value.specs.Index.{start_in, end_in}
 use Rattle.jv_value.specs.Slice.{range_of}
 use Rattle.jv_value.specs.private.Steps.{to_items}

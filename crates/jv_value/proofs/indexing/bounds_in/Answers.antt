@@ -1,6 +1,6 @@
 use Rattle.std.proofs.Common.{◌∙◌, ap}
 use Rattle.jv_data.specs.Held.{members_in}
-use Rattle.jv_meaning.specs.Members.{member_at}
+use Rattle.jv_data.specs.Members.{member_at}
 use Rattle.jv_data.specs.View.{view}
 use Rattle.jv_value.proofs.Located.{part_or_missing, start_spelt, end_spelt}
 use Rattle.jv_value.proofs.indexing.bounds_in.Goals as goal

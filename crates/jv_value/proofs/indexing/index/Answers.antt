@@ -1,8 +1,8 @@
 use Rattle.std.proofs.Common.{◌≡◌, ◌∙◌, ap, refl, sym, map, Ok, unwrap_or}
 use Rattle.jv_data.specs.Held.{members_in}
-use Rattle.jv_meaning.proofs.Items.{values_of-items_of}
+use Rattle.jv_data.proofs.shared.Items.{values_of-items_of}
 use Rattle.jv_data.specs.Shared.{items_in, text_in}
-use Rattle.jv_meaning.specs.Value.{null}
+use Rattle.jv_data.specs.Value.{null}
 use Rattle.jv_data.specs.View.{view}
 use Rattle.jv_value.specs.Index.{index_of, item_at, start_in, end_in}
 use Rattle.jv_value.specs.Slice.{slice_of_array, slice_of_string}

@@ -1,7 +1,7 @@
 use Rattle.std.proofs.Common.{◌≡◌, ◌++◌, map}
 use Rattle.jv_data.specs.Held.{members_in}
 use Rattle.jv_data.specs.View.{view, members_view}
-use Rattle.jv_meaning.specs.Value.{entries_of}
+use Rattle.jv_data.specs.Value.{entries_of}
 use Rattle.jv_value.proofs.parts.member_copies.Given as goal
 
 abbrev pub invariant-loop-value : goal.invariant-loop-value

@@ -1,8 +1,8 @@
 use Rattle.std.proofs.Common.{◌≡◌, ◌∙◌, ap, sym, subst, rules, map}
 use Rattle.jv_data.specs.Held.{members_in}
 use Rattle.jv_data.specs.View.{view}
-use Rattle.jv_meaning.proofs.shared.Results.{if_ok_map}
-use Rattle.jv_meaning.specs.Value.{array, items_of, object}
+use Rattle.jv_data.proofs.shared.Results.{if_ok_map}
+use Rattle.jv_data.specs.Value.{array, items_of, object}
 use Rattle.jv_value.specs.DeletePaths.{without_locations}
 use Rattle.jv_value.specs.private.ItemGroups.{groups_in, groups_left}
 use Rattle.jv_value.specs.private.Locations.{locations_in}

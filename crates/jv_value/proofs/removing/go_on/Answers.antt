@@ -1,6 +1,6 @@
 use Rattle.std.proofs.Common.{sym, subst}
 use Rattle.jv_data.specs.View.{view}
-use Rattle.jv_meaning.proofs.shared.Results.{if_ok_map}
+use Rattle.jv_data.proofs.shared.Results.{if_ok_map}
 use Rattle.jv_value.specs.private.Removals.{GroupsLeave, Leaves}
 use Rattle.jv_value.proofs.removing.go_on.Goals as goal
 

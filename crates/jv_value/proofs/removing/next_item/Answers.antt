@@ -4,7 +4,7 @@ use Rattle.jv_data.proofs.shared.Levels.{view-List}
 use Rattle.jv_data.specs.Shared.{items_in}
 use Rattle.jv_data.specs.View.{view}
 use Rattle.jv_data.specs.declared.values.Val as val
-use Rattle.jv_meaning.specs.Value.{array, items_of}
+use Rattle.jv_data.specs.Value.{array, items_of}
 use Rattle.jv_value.specs.DeletePaths.{names_itself, without_locations}
 use Rattle.jv_value.specs.private.Locations.{locations_in}
 use Rattle.jv_value.specs.private.Removals.{AllLeave, items_with}

@@ -6,7 +6,7 @@ use Rattle.jv_data.proofs.shared.Levels.{view-Table}
 use Rattle.jv_data.specs.Held.{members_in}
 use Rattle.jv_data.specs.View.{view}
 use Rattle.jv_data.specs.declared.values.Val as val
-use Rattle.jv_meaning.specs.Value.{object}
+use Rattle.jv_data.specs.Value.{object}
 use Rattle.jv_value.specs.DeletePaths.{without_locations}
 use Rattle.jv_value.specs.private.Groups.{held_in}
 use Rattle.jv_value.specs.private.Locations.{locations_in}

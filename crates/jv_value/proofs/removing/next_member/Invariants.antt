@@ -1,6 +1,6 @@
 use Rattle.std.proofs.Common.{◌≡◌, length}
 use Rattle.jv_data.specs.Held.{members_in}
-use Rattle.jv_meaning.specs.Value.{Value}
+use Rattle.jv_data.specs.Value.{Value}
 use Rattle.jv_value.specs.private.Removals.{GroupsLeave}
 use Rattle.jv_value.proofs.removing.next_member.Given as goal
 

@@ -4,9 +4,9 @@ use Rattle.jv_data.specs.Held.{members_in}
 use Rattle.std.proofs.lemmas.List.{nil_from_length}
 use Rattle.jv_data.proofs.shared.Levels.{members_held}
 use Rattle.jv_data.specs.Shared.{entries_in}
-use Rattle.jv_meaning.specs.Value.{no_members}
+use Rattle.jv_data.specs.Value.{no_members}
 use Rattle.jv_data.specs.View.{view, members_view}
-use Rattle.jv_meaning.specs.Members.{member_at, put, without}
+use Rattle.jv_data.specs.Members.{member_at, put, without}
 use Rattle.jv_value.specs.DeletePaths.{names_itself, without_locations}
 use Rattle.jv_value.specs.private.Locations.{locations_in}
 use Rattle.jv_value.proofs.Ascending.{left_absent, left_present}

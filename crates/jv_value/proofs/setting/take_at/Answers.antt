@@ -2,7 +2,7 @@ use Rattle.std.proofs.Common.{◌≡◌, ◌∙◌, ◌<◌, ap, sym, rules, map
 use Rattle.std.proofs.lemmas.List.{map-set, length-map, get_or_default}
 use Rattle.std.proofs.lemmas.Option.{unwrap_or-slice_get}
 use Rattle.std.proofs.Math.ListN.{get_or-map}
-use Rattle.jv_meaning.specs.Value.{null}
+use Rattle.jv_data.specs.Value.{null}
 use Rattle.jv_data.specs.View.{view}
 use Rattle.jv_data.specs.declared.values.Val as val
 use Rattle.jv_value.specs.Index.{place_of}

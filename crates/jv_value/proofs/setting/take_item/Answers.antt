@@ -1,5 +1,5 @@
 use Rattle.std.proofs.Common.{◌≡◌, ◌∙◌, ap, sym, rules, map}
-use Rattle.jv_meaning.specs.Value.{array, items_of}
+use Rattle.jv_data.specs.Value.{array, items_of}
 use Rattle.jv_data.specs.View.{view}
 use Rattle.jv_value.proofs.Taken.{takes_item}
 use Rattle.jv_value.proofs.setting.take_item.Goals as goal

@@ -2,7 +2,7 @@ use Rattle.std.proofs.Common.{◌≡◌, ◌∙◌, ◌≤◌, ap, sym, rules, m
 use Rattle.std.proofs.lemmas.List.{length-map, take-map, drop-map}
 use Rattle.jv_data.specs.Held.{values_in}
 use Rattle.jv_data.specs.Shared.{items_in}
-use Rattle.jv_meaning.specs.Value.{array, items_of}
+use Rattle.jv_data.specs.Value.{array, items_of}
 use Rattle.jv_data.specs.View.{view}
 use Rattle.jv_value.specs.Slice.{range_of}
 use Rattle.jv_value.proofs.Taken.{takes_slice}

@@ -1,6 +1,6 @@
 use Rattle.std.proofs.Common.{◌≡◌, ◌∙◌, ap, sym, rules, Ok, Some, length, map, slice_range}
 use Rattle.jv_data.specs.Shared.{items_in}
-use Rattle.jv_meaning.specs.Value.{array, items_of}
+use Rattle.jv_data.specs.Value.{array, items_of}
 use Rattle.jv_data.specs.View.{view}
 use Rattle.jv_value.specs.Slice.{range_of}
 use Rattle.jv_value.proofs.Slices.{sliced_items}

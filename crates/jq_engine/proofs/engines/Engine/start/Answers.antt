@@ -1,7 +1,7 @@
 use Rattle.std.proofs.Common.{◌≡◌, ◌∙◌, ◌<◌, ◌≤◌, ◌+◌, ◌-◌, map, length, ap, subst, arith}
 use Rattle.std.proofs.lemmas.List.{length-map}
 use Rattle.jq_ast.specs.Named.{named}
-use Rattle.jq_bindings.specs.Programs.{program_env}
+use Rattle.jq_meaning.specs.Programs.{program_env}
 use Rattle.jq_state.specs.Environments.{count_of, envs_of, program_of}
 use Rattle.jq_state.specs.Inputs.{inputs_of}
 use Rattle.jq_state.specs.Items.{item_of}

@@ -1,5 +1,5 @@
 use Rattle.std.proofs.Common.{◌≡◌, map, drop}
-use Rattle.jv_meaning.specs.Text.{text_of}
+use Rattle.jv_data.specs.Text.{text_of}
 use Rattle.jq_inputs.specs.private.Hidden.{hiding_parameters}
 use Rattle.jq_inputs.proofs.hidden.Hidden.with_parameters.Given as goal
 

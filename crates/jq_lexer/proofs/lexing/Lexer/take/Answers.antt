@@ -1,5 +1,5 @@
 use Rattle.std.proofs.Common.{ℕ, List, ◌∷◌, ◌∙◌, ap, sym}
-use Rattle.jv_meaning.proofs.shared.Results.{if_ok_map}
+use Rattle.jv_data.proofs.shared.Results.{if_ok_map}
 use Rattle.jq_lexer.proofs.Taking.{comment_takes, part_answers, quote_answers, space_takes, answers_taken}
 use Rattle.jq_lexer.proofs.Texts.{after_all}
 use Rattle.jq_lexer.proofs.lexing.Lexer.take.Goals as goal

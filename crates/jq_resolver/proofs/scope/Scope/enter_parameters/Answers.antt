@@ -1,7 +1,7 @@
 use Rattle.std.proofs.Common.{◌≡◌, ◌∙◌, ◌+◌, ◌∷◌, ◌++◌, [], map, take, get_or, ap, sym, rules}
 use Rattle.std.proofs.lemmas.List.{map-append, take_more}
 use Rattle.std.specs.Str.{chars}
-use Rattle.jv_meaning.specs.Text.{text_of}
+use Rattle.jv_data.specs.Text.{text_of}
 use Rattle.jq_tree.specs.Names.{to_function, with_parameters}
 use Rattle.jq_resolver.specs.private.Scopes.{bound_names}
 use Rattle.jq_resolver.proofs.Scopes.{parameters_more}

@@ -4,7 +4,7 @@ use Rattle.jq_devices.specs.Watched.{device_of}
 use Rattle.jq_devices.specs.Writing.{AppendsFirst}
 use Rattle.jq_pages.specs.Contents.{folded_of}
 use Rattle.jq_pages.specs.Folds.{all}
-use Rattle.jv_meaning.proofs.shared.Results.{err_mapped, ok_mapped}
+use Rattle.jv_data.proofs.shared.Results.{err_mapped, ok_mapped}
 use Rattle.jq_session.proofs.OnPages.{output_paged}
 use Rattle.jq_session.proofs.Passing.{outputs_are}
 use Rattle.jq_session.proofs.paged.PagedSession.write_out.Goals as goal

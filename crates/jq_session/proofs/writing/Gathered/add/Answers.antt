@@ -3,7 +3,7 @@ use Rattle.std.specs.Io.KnownBytes.{Appends}
 use Rattle.jq_devices.specs.Watched.{device_of}
 use Rattle.jq_devices.specs.Writing.{AppendsFirst}
 use Rattle.jq_devices.proofs.shared.Writing.{first_after, first_longer}
-use Rattle.jv_meaning.proofs.shared.Results.{on_err, on_err_map, on_ok_map}
+use Rattle.jv_data.proofs.shared.Results.{on_err, on_err_map, on_ok_map}
 use Rattle.jq_session.proofs.Passing.{passed_on}
 use Rattle.jq_session.proofs.writing.Gathered.add.Goals as goal
 

@@ -2,7 +2,7 @@ use Rattle.std.proofs.Common.{◌∙◌, ◌++◌, take, map, subst, ap}
 use Rattle.std.specs.List.{flat_map}
 use Rattle.jq_devices.specs.Watched.{device_of}
 use Rattle.jq_pages.specs.Pieces.{piece_view}
-use Rattle.jv_meaning.proofs.shared.Results.{on_err}
+use Rattle.jv_data.proofs.shared.Results.{on_err}
 use Rattle.jq_session.specs.private.Parts.{part_in}
 use Rattle.jq_session.specs.private.Writing.{IsPassed}
 use Rattle.jq_session.proofs.Passing.{passed_more, piece_first, pieces_more}

@@ -5,8 +5,8 @@ use Rattle.std.specs.Str.{chars}
 use Rattle.jv_data.specs.Held.{members_in}
 use Rattle.jv_data.proofs.shared.Levels.{view-Bool, view-List}
 use Rattle.jv_data.specs.Shared.{text_in}
-use Rattle.jv_meaning.specs.Value.{Value, Members, array, items_of, string}
-use Rattle.jv_meaning.specs.Text.{text_of}
+use Rattle.jv_data.specs.Value.{Value, Members, array, items_of, string}
+use Rattle.jv_data.specs.Text.{text_of}
 use Rattle.jv_value.specs.Index.{slice_key}
 use Rattle.jv_data.specs.View.{view}
 use Rattle.jv_data.specs.declared.values.Val.{Val}
@@ -16,7 +16,7 @@ use Rattle.jq_ast.proofs.shared.Forms.{named-Call, named-PreludeCall, named-Upda
 use Rattle.jq_tree.specs.Tree as form
 use Rattle.jq_tree.specs.Tree.{Entry, Tree, bind_as, more_entries, object, reduce, text, trees_of, whole}
 use Rattle.jq_operations.specs.Language.{meaning_of}
-use Rattle.jq_machine.specs.Operations.{path_item}
+use Rattle.jq_meaning.specs.machine.Operations.{path_item}
 use Rattle.jq_meaning.specs.Builtins.{builtin_named, plain_native, range_of}
 use Rattle.jq_meaning.specs.Builtins as meaning
 use Rattle.jq_meaning.specs.Env.{bound, find_callee, find_in_prelude, find_value, no_callee, value_of}
@@ -31,13 +31,13 @@ use Rattle.jq_single.specs.private.Scopes.{scope_env}
 use Rattle.jq_operations.specs.Outputs.{Inserts, outputs_of}
 use Rattle.jq_operations.specs.Pieces.{named_pieces}
 use Rattle.jq_state.specs.Steps.{named_entries}
-use Rattle.jq_machine.proofs.RunLaws.{bind-bind, bind-then_run}
+use Rattle.jq_meaning.proofs.shared.machine.RunLaws.{bind-bind, bind-then_run}
 use Rattle.jq_single.specs.private.Gathering.{Gathers, folded, given_of, made, numbers_from, rest_run, state_in, turn}
 use Rattle.jq_state.specs.Items.{item_of}
 use Rattle.jq_state.proofs.shared.Items.{absent, value_of_item}
 use Rattle.jq_single.specs.private.Making.{entries_in}
 use Rattle.jq_single.specs.private.Updates.{listed, part_run, path_run}
-use Rattle.jq_update_laws.specs.laws.Updating.{turn_of, turns}
+use Rattle.jq_meaning.specs.laws.Updating.{turn_of, turns}
 use Rattle.jq_single.specs.private.FirstOutputs.{first_alone}
 use Rattle.jq_single.specs.private.Parts.{Answers, builtin_in, run}
 use Rattle.jq_single.specs.Single.{Changed, Ends}

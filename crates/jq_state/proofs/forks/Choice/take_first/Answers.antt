@@ -2,7 +2,7 @@ use Rattle.std.proofs.Common.{◌≡◌, ◌<◌, ◌∷◌, [], length, refl, r
 use Rattle.std.proofs.lemmas.Int.{to_z-of_z}
 use Rattle.std.specs.Prelude.{FitsSigned}
 use Rattle.jv_data.proofs.shared.Levels.{view-Num}
-use Rattle.jv_meaning.specs.Value.{number}
+use Rattle.jv_data.specs.Value.{number}
 use Rattle.jq_meaning.specs.Builtins.{steps_between, numbers_up_to}
 use Rattle.jq_meaning.specs.Runs.{before, one, plain}
 use Rattle.jq_state.specs.Items.{item_of}

@@ -2,7 +2,7 @@ use Rattle.std.proofs.Common.{◌<◌, ◌≤◌, ◌++◌, ◌∷◌, [], lengt
 use Rattle.jq_state.specs.Environments.{envs_of}
 use Rattle.jq_state.specs.Chains.{continuations}
 use Rattle.jq_state.specs.Items.{item_of}
-use Rattle.jq_machine.specs.Stack.{cell_at}
+use Rattle.jq_meaning.specs.machine.Stack.{cell_at}
 use Rattle.jq_state.proofs.Cells.{points, changed, fits_changed, changed_small, item_added, set_outside}
 use Rattle.jq_state.proofs.states.State.add_to_cell.Goals as goal
 

@@ -1,7 +1,7 @@
 use Rattle.std.proofs.Common.{◌≡◌, ◌<◌, ◌≤◌, ◌∷◌, [], length, drop, sym, ap, ◌∙◌, arith}
 use Rattle.jv_data.proofs.shared.Levels.{view-Null}
 use Rattle.jq_meaning.specs.Runs.{plain}
-use Rattle.jq_machine.specs.Operations.{state_in}
+use Rattle.jq_meaning.specs.machine.Operations.{state_in}
 use Rattle.jq_state.specs.Environments.{envs_of}
 use Rattle.jq_state.specs.Chains.{continuations}
 use Rattle.jq_state.proofs.Cells.{changed, fits_changed, changed_small, items_set, set_outside, state_read, cell_outside, one_left, none_left}

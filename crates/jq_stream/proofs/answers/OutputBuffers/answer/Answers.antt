@@ -1,4 +1,4 @@
-use Rattle.jv_meaning.proofs.shared.Results.{on_err}
+use Rattle.jv_data.proofs.shared.Results.{on_err}
 use Rattle.jq_stream.proofs.Answering.{stopped_before}
 use Rattle.jq_stream.proofs.answers.OutputBuffers.answer.Goals as goal
 

@@ -1,7 +1,7 @@
 use Rattle.std.proofs.Common.{rules, [], ◌∷◌, ◌++◌, refl, sym, subst, append-nil, append_assoc, ◌∙◌}
 use Rattle.jv_data.specs.View.{view}
 use Rattle.jv_text.specs.Cutting.{HasGiven}
-use Rattle.jv_meaning.proofs.shared.Results.{error_returned, on_err}
+use Rattle.jv_data.proofs.shared.Results.{error_returned, on_err}
 use Rattle.jq_filters.specs.Runner.{job_of}
 use Rattle.jq_stream.proofs.Answering.{answered_none, first_of_answered, halted_more, one_halts, one_more_made, unhalted_more, values_more, values_then_first}
 use Rattle.jq_filters.proofs.shared.Halting.{none_halts}

@@ -1,5 +1,5 @@
 use Rattle.std.proofs.Common.{◌≡◌, ℕ, List, ◌++◌, None, length}
-use Rattle.jv_meaning.specs.Value.{Value}
+use Rattle.jv_data.specs.Value.{Value}
 use Rattle.jv_text.specs.Cutting.{HasGiven, is_finished, fed_count}
 use Rattle.jq_devices.specs.Watched.{device_of}
 use Rattle.jq_filters.specs.Outcomes.{first_halt}

@@ -1,6 +1,6 @@
 use Rattle.std.proofs.Common.{◌∙◌}
 use Rattle.std.proofs.lemmas.Result.{IfOk-weaker}
-use Rattle.jv_meaning.proofs.shared.Results.{error_returned, if_err_map, on_err, on_err_map, on_ok_map}
+use Rattle.jv_data.proofs.shared.Results.{error_returned, if_err_map, on_err, on_err_map, on_ok_map}
 use Rattle.jq_stream.proofs.Answering.{either_answered, buffers_written, first_buffers_written, first_of_written}
 use Rattle.jq_stream.proofs.Blaming.{after_result, then_none}
 use Rattle.jq_stream.proofs.answers.OutputBuffers.answer_ready.Goals as goal

@@ -1,5 +1,5 @@
 use Rattle.std.proofs.Common.{refl}
-use Rattle.jv_meaning.proofs.shared.Results.{on_err, on_err_map, on_ok_map}
+use Rattle.jv_data.proofs.shared.Results.{on_err, on_err_map, on_ok_map}
 use Rattle.jq_stream.proofs.Printing.{none_added_first}
 use Rattle.jq_stream.proofs.Sending.{first_as, sent_as}
 use Rattle.jq_stream.proofs.answers.OutputBuffers.print.Goals as goal

@@ -1,5 +1,5 @@
 use Rattle.std.proofs.Common.{refl}
-use Rattle.jv_meaning.proofs.shared.Results.{on_err}
+use Rattle.jv_data.proofs.shared.Results.{on_err}
 use Rattle.jq_stream.proofs.Printing.{first_whole, none_added_first, piece_added, piece_added_first}
 use Rattle.jq_stream.proofs.answers.OutputBuffers.print_piece.Goals as goal
 

@@ -1,5 +1,5 @@
 use Rattle.std.proofs.Common.{[], ◌++◌, refl, ◌∙◌}
-use Rattle.jv_meaning.proofs.shared.Results.{error_returned, on_err}
+use Rattle.jv_data.proofs.shared.Results.{error_returned, on_err}
 use Rattle.jq_stream.proofs.Blaming.{after_none}
 use Rattle.jq_stream.proofs.Printing.{first_printed, first_whole, more_remain, none_remain, printed_more, printed_none, printed_then_first, printed_whole}
 use Rattle.jq_stream.proofs.answers.OutputBuffers.print_pieces.Goals as goal

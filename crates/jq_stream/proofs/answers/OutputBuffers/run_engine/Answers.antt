@@ -1,5 +1,5 @@
 use Rattle.std.proofs.Common.{[], ◌∷◌, ◌++◌, refl, sym, ◌∙◌}
-use Rattle.jv_meaning.proofs.shared.Results.{error_returned, on_err}
+use Rattle.jv_data.proofs.shared.Results.{error_returned, on_err}
 use Rattle.jq_stream.proofs.Answering.{answered_sent, answered_sent_first}
 use Rattle.jq_stream.proofs.Blaming.{after_none}
 use Rattle.jq_stream.proofs.Turning.{turning_none, turning_on, turning_stopped, print_stopped, report_stopped, run_ended, halt_of_rest, before_more}

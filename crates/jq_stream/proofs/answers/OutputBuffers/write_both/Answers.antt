@@ -2,7 +2,7 @@ use Rattle.std.proofs.Common.{subst}
 use Rattle.jq_devices.proofs.shared.Writing.{first_result}
 use Rattle.jq_devices.specs.Watched.{device_of}
 use Rattle.jq_devices.specs.Writing.{AppendsFirst}
-use Rattle.jv_meaning.proofs.shared.Results.{on_err}
+use Rattle.jv_data.proofs.shared.Results.{on_err}
 use Rattle.jq_stream.proofs.answers.OutputBuffers.write_both.Goals as goal
 
 pub returns-in_err-write-clause-first : goal.returns-in_err-write-clause-first

@@ -1,5 +1,5 @@
 use Rattle.std.proofs.Common.{[], sym, append-nil}
-use Rattle.jv_meaning.proofs.shared.Results.{on_err}
+use Rattle.jv_data.proofs.shared.Results.{on_err}
 use Rattle.jq_stream.proofs.Sending.{first_flushed}
 use Rattle.jq_stream.proofs.answers.OutputBuffers.write_if_large.Goals as goal
 

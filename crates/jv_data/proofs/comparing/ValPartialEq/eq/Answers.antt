@@ -1,5 +1,5 @@
 use Rattle.std.proofs.lemmas.Bool.Decides.{same_from_decides}
-use Rattle.jv_meaning.proofs.Order.{same_Decides}
+use Rattle.jv_data.proofs.shared.Order.{same_Decides}
 use Rattle.jv_data.specs.View.{view}
 use Rattle.jv_data.proofs.comparing.ValPartialEq.eq.Goals as goal
 

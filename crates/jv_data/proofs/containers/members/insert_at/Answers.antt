@@ -5,8 +5,8 @@ use Rattle.jv_data.proofs.Places.{members_view-insert_entry}
 use Rattle.jv_data.proofs.Shares.{on_err}
 use Rattle.jv_data.specs.View.{view, members_view}
 use Rattle.jv_data.specs.private.Names.{GoesTo}
-use Rattle.jv_meaning.specs.Members.{put}
-use Rattle.jv_meaning.specs.Text.{text_of}
+use Rattle.jv_data.specs.Members.{put}
+use Rattle.jv_data.specs.Text.{text_of}
 use Rattle.jv_data.proofs.containers.members.insert_at.Goals as goal
 
 pub returns-in_err-own-clause-err : goal.returns-in_err-own-clause-err

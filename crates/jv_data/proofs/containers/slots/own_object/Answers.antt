@@ -3,8 +3,8 @@ use Rattle.std.proofs.lemmas.Grind.{common_steps}
 use Rattle.jv_data.proofs.Drafts.{present_before, present_nil, present_none}
 use Rattle.jv_data.specs.Drafts.{present}
 use Rattle.jv_data.specs.View.{view, members_view}
-use Rattle.jv_meaning.specs.Members.{put}
-use Rattle.jv_meaning.specs.Text.{text_of}
+use Rattle.jv_data.specs.Members.{put}
+use Rattle.jv_data.specs.Text.{text_of}
 use Rattle.jv_data.proofs.containers.slots.own_object.Goals as goal
 
 pub loop-slot-init : goal.loop-slot-init

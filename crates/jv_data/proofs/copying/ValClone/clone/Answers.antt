@@ -1,6 +1,6 @@
 use Rattle.std.proofs.Common.{◌∙◌, ap, sym}
 use Rattle.jv_data.proofs.shared.Levels.{view-Table}
-use Rattle.jv_meaning.specs.Value.{object}
+use Rattle.jv_data.specs.Value.{object}
 use Rattle.jv_data.proofs.copying.ValClone.clone.Goals as goal
 
 pub returns-in_ok-share-in-Table : goal.returns-in_ok-share-in-Table

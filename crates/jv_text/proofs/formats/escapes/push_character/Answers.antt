@@ -1,6 +1,6 @@
 use Rattle.std.proofs.Common.{◌∙◌, ◌++◌, ap, sym, rules}
-use Rattle.jv_meaning.specs.Text.{text_of}
-use Rattle.jv_meaning.proofs.shared.Texts.{written_more}
+use Rattle.jv_data.specs.Text.{text_of}
+use Rattle.jv_data.proofs.shared.Texts.{written_more}
 use Rattle.jv_text.proofs.formats.escapes.push_character.Goals as goal
 
 pub returns-in_ok-push-in-None : goal.returns-in_ok-push-in-None

@@ -1,9 +1,9 @@
 use Rattle.std.proofs.Common.{◌∙◌, ◌++◌, ap}
 use Rattle.std.proofs.lemmas.List.{flat_map_more, nil_from_length}
 use Rattle.std.specs.Prelude.{flat_map}
-use Rattle.jv_meaning.specs.Text.{text_of}
+use Rattle.jv_data.specs.Text.{text_of}
 use Rattle.jv_text.specs.private.Escapes.{written_in}
-use Rattle.jv_meaning.proofs.shared.Texts.{all_read, read_more}
+use Rattle.jv_data.proofs.shared.Texts.{all_read, read_more}
 use Rattle.jv_text.proofs.formats.escapes.push_escaped.Goals as goal
 
 pub loop-c-preserved : goal.loop-c-preserved

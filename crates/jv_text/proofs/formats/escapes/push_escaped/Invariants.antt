@@ -1,6 +1,6 @@
 use Rattle.std.proofs.Common.{◌≡◌, ◌++◌}
 use Rattle.std.specs.Prelude.{flat_map}
-use Rattle.jv_meaning.specs.Text.{text_of}
+use Rattle.jv_data.specs.Text.{text_of}
 use Rattle.jv_text.specs.private.Escapes.{written_in}
 use Rattle.jv_text.proofs.formats.escapes.push_escaped.Given as goal
 use lib.Utf8.{encodes}

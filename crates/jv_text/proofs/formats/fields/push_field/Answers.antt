@@ -2,7 +2,7 @@ use Rattle.std.proofs.Common.{◌≡◌, ◌∙◌, ◌++◌, ap, rules}
 use Rattle.std.specs.Fmt.{signed_decimal}
 use Rattle.std.specs.Str.{chars}
 use Rattle.jv_data.proofs.shared.Levels.{view-Null, view-Bool, view-Num, view-Text}
-use Rattle.jv_meaning.specs.Text.{text_of}
+use Rattle.jv_data.specs.Text.{text_of}
 use Rattle.jv_data.specs.View.{view}
 use Rattle.jv_text.specs.private.Rows.{field_in, quoted_in}
 use Rattle.jv_text.proofs.FieldTexts.{appended-text, field-null, field-boolean, field-number, field-string}

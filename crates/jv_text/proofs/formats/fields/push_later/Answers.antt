@@ -1,6 +1,6 @@
 use Rattle.std.proofs.Common.{◌≡◌, ◌∙◌, ◌+◌, ◌++◌, ◌∷◌, ap, sym, rules, drop}
 use Rattle.std.proofs.lemmas.List.{drop_more}
-use Rattle.jv_meaning.specs.Text.{text_of}
+use Rattle.jv_data.specs.Text.{text_of}
 use Rattle.jv_data.specs.View.{items_view, view}
 use Rattle.jv_text.specs.private.Appending.{appended}
 use Rattle.jv_text.specs.private.Rows.{between, field_in, later_fields}

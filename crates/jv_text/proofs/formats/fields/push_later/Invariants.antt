@@ -1,5 +1,5 @@
 use Rattle.std.proofs.Common.{◌≡◌, drop}
-use Rattle.jv_meaning.specs.Text.{text_of}
+use Rattle.jv_data.specs.Text.{text_of}
 use Rattle.jv_data.specs.View.{items_view}
 use Rattle.jv_text.specs.private.Appending.{appended}
 use Rattle.jv_text.specs.private.Rows.{later_fields}

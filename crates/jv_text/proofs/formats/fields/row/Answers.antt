@@ -4,7 +4,7 @@ use Rattle.std.proofs.lemmas.Result.{err_from_is_err_and}
 use Rattle.std.proofs.lemmas.Str.{chars-nil}
 use Rattle.std.specs.Str.{chars}
 use Rattle.jv_data.specs.Fails.{FailsAs}
-use Rattle.jv_meaning.specs.Text.{text_of}
+use Rattle.jv_data.specs.Text.{text_of}
 use Rattle.jv_data.specs.View.{items_view, view}
 use Rattle.jv_data.specs.declared.values.Val.{Val}
 use Rattle.jv_text.specs.Formats.{GivesText, fields, joined}

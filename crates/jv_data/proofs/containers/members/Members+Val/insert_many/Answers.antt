@@ -1,8 +1,8 @@
 use Rattle.std.proofs.Common.{◌∙◌, ap, ap₂, zip}
 use Rattle.jv_data.proofs.Places.{members_view-insert_entry}
 use Rattle.jv_data.specs.View.{view, members_view}
-use Rattle.jv_meaning.specs.Members.{put}
-use Rattle.jv_meaning.specs.Text.{text_of}
+use Rattle.jv_data.specs.Members.{put}
+use Rattle.jv_data.specs.Text.{text_of}
 use Rattle.jv_data.proofs.containers.members.Members+Val.insert_many.Goals as goal
 
 pub returns-in_ok-insert-in-Few-clause-ok : goal.returns-in_ok-insert-in-Few-clause-ok

@@ -7,7 +7,7 @@ use Rattle.jv_data.proofs.Shares.{on_err}
 use Rattle.jv_data.specs.Shared.{entries_held}
 use Rattle.jv_data.specs.View.{view, members_view}
 use Rattle.jv_data.specs.Names.{IsAt}
-use Rattle.jv_meaning.specs.Members.{without}
+use Rattle.jv_data.specs.Members.{without}
 use Rattle.jv_data.proofs.containers.members.Members+Val.remove.Goals as goal
 
 pub returns-in_err-make_mut-in-Ok-clause-err : goal.returns-in_err-make_mut-in-Ok-clause-err

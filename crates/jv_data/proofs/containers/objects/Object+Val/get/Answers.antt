@@ -1,7 +1,7 @@
 use Rattle.std.proofs.Common.{◌∙◌, ap, sym, option_map}
 use Rattle.std.specs.Str.{chars}
 use Rattle.jv_data.proofs.shared.Levels.{members_held}
-use Rattle.jv_meaning.specs.Members.{member_at}
+use Rattle.jv_data.specs.Members.{member_at}
 use Rattle.jv_data.proofs.Places.{view_of_copied, member_found}
 use Rattle.jv_data.specs.Shared.{entries_in}
 use Rattle.jv_data.specs.View.{view}

@@ -4,8 +4,8 @@ use Rattle.jv_data.proofs.shared.Levels.{members_held}
 use Rattle.jv_data.specs.declared.containers.objects.Object.{Object}
 use Rattle.jv_data.specs.declared.values.Val.{Val}
 use Rattle.jv_data.proofs.Shares.{same_held, on_err}
-use Rattle.jv_meaning.specs.Members.{put}
-use Rattle.jv_meaning.specs.Text.{text_of}
+use Rattle.jv_data.specs.Members.{put}
+use Rattle.jv_data.specs.Text.{text_of}
 use Rattle.jv_data.specs.Shared.{entries_held}
 use Rattle.jv_data.specs.View.{view, members_view}
 use Rattle.jv_data.proofs.containers.objects.Object+Val.insert.Goals as goal

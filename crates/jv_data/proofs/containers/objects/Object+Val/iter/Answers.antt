@@ -3,7 +3,7 @@ use Rattle.jv_data.proofs.Views.{in_order}
 use Rattle.jv_data.proofs.shared.Levels.{members_held}
 use Rattle.jv_data.specs.Shared.{entries_in}
 use Rattle.jv_data.specs.View.{members_view}
-use Rattle.jv_meaning.specs.Members.{IsInOrder}
+use Rattle.jv_data.specs.Members.{IsInOrder}
 use Rattle.jv_data.proofs.containers.objects.Object+Val.iter.Goals as goal
 
 pub returns-clause-members : goal.returns-clause-members

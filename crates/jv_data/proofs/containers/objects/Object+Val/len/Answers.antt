@@ -2,7 +2,7 @@ use Rattle.std.proofs.Common.{sym, subst}
 use Rattle.jv_data.proofs.Views.{in_order}
 use Rattle.jv_data.proofs.shared.Levels.{members_held}
 use Rattle.jv_data.specs.Shared.{entries_in}
-use Rattle.jv_meaning.specs.Members.{IsInOrder}
+use Rattle.jv_data.specs.Members.{IsInOrder}
 use Rattle.jv_data.proofs.containers.objects.Object+Val.len.Goals as goal
 
 pub returns-clause-ordered : goal.returns-clause-ordered

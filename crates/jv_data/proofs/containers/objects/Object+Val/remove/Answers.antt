@@ -5,7 +5,7 @@ use Rattle.jv_data.proofs.shared.Levels.{members_held}
 use Rattle.jv_data.specs.declared.containers.objects.Object.{Object}
 use Rattle.jv_data.specs.declared.values.Val.{Val}
 use Rattle.jv_data.proofs.Shares.{same_held, on_err}
-use Rattle.jv_meaning.specs.Members.{member_at, without}
+use Rattle.jv_data.specs.Members.{member_at, without}
 use Rattle.jv_data.specs.Shared.{entries_held}
 use Rattle.jv_data.specs.View.{members_view}
 use Rattle.jv_data.proofs.containers.objects.Object+Val.remove.Goals as goal

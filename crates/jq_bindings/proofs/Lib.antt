@@ -1,8 +1,0 @@
-pub mod Binders
-pub mod Found
-pub mod Walks
-pub mod Parts
-pub mod Calls
-pub mod Patterns
-pub mod Known
-pub mod Running

@@ -1,5 +1,0 @@
-use Rattle.jq_bindings.proofs.Found.{callee_found, language_found}
-use Rattle.jq_bindings.proofs.lookups.callees_stand_at_their_places.Goals as goal
-
-pub returns : goal.returns
-returns c = record { bound = callee_found; builtin = language_found }

@@ -1,5 +1,0 @@
-use Rattle.jq_bindings.proofs.Found.{prelude_found, prelude_unbound}
-use Rattle.jq_bindings.proofs.lookups.prelude_functions_stand_at_their_places.Goals as goal
-
-pub returns : goal.returns
-returns c = record { bound = prelude_found; unbound = prelude_unbound }

@@ -1,5 +1,0 @@
-use Rattle.jq_bindings.proofs.Found.{value_found, level_found}
-use Rattle.jq_bindings.proofs.lookups.values_and_labels_stand_at_their_places.Goals as goal
-
-pub returns : goal.returns
-returns c = record { values = value_found; levels = level_found }

@@ -1,5 +1,0 @@
-use Rattle.jq_bindings.proofs.Parts.{prelude_binders_stay, prelude_functions_stay}
-use Rattle.jq_bindings.proofs.places.prelude_functions_stay.Goals as goal
-
-pub returns : goal.returns
-returns c = record { binders = prelude_binders_stay; functions = prelude_functions_stay }

@@ -1,5 +1,0 @@
-use Rattle.jq_bindings.proofs.Calls.{calls_bind, bodies_keep, calls_add}
-use Rattle.jq_bindings.proofs.scopes.calls_bind_parameters.Goals as goal
-
-pub returns : goal.returns
-returns c = record { names = calls_bind; body = bodies_keep; added = calls_add }

@@ -1,4 +1,0 @@
-use Rattle.jq_evaluate.proofs.paths.enter_iterate.Goals as goal
-
-pub returns : goal.returns
-returns c = c.run_operation.ensures

@@ -1,5 +1,0 @@
-use Rattle.jq_machine.proofs.Kept.{produces-at_once}
-use Rattle.jq_machine.proofs.laws.a_filter_may_run_at_once.Goals as goal
-
-pub returns : goal.returns
-returns c = produces-at_once

@@ -1,5 +1,0 @@
-use Rattle.jq_machine.proofs.Kept.{keeps-moves, keeps-outputs, keeps-finishes}
-use Rattle.jq_machine.proofs.laws.a_transition_keeps_the_run.Goals as goal
-
-pub returns : goal.returns
-returns c = record { moves = keeps-moves; outputs = keeps-outputs; finishes = keeps-finishes }

@@ -1,9 +1,0 @@
-pub mod State
-pub mod Stack
-pub mod Operations
-pub mod Evaluating
-pub mod Matching
-pub mod Giving
-pub mod Machine
-pub mod Heights
-pub mod laws

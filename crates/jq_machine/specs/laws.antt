@@ -1,2 +1,0 @@
--- What is proved about the states.
-pub mod Starts

@@ -1,3 +1,0 @@
--- What only contracts of private functions cite.
-pub mod Transitions
-pub mod Found

@@ -1,4 +1,0 @@
-pub mod Forms
-pub mod Turns
-pub mod Updates
-pub mod Stays

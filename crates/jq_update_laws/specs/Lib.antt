@@ -1,3 +1,0 @@
-pub mod Body
-pub mod Known
-pub mod laws

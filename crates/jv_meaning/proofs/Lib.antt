@@ -1,4 +1,0 @@
-pub mod shared
-pub mod Order
-pub mod Items
-pub mod Keyed

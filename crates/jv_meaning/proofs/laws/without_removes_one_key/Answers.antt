@@ -1,5 +1,0 @@
-use Rattle.jv_meaning.proofs.Keyed.{gone_without, others_without, without_ordered}
-use Rattle.jv_meaning.proofs.laws.without_removes_one_key.Goals as goal
-
-pub returns : goal.returns
-returns c = record { gone = gone_without; others = others_without; ordered = without_ordered }
