@@ -12,7 +12,7 @@ use Rattle.jq_meaning.specs.Env.{Env, Binding, Callee, outermost, bound, value_o
 use Rattle.jq_meaning.specs.Runs.{Run}
 use Rattle.jq_resolver.specs.Programs.{named_program}
 use Rattle.jq_state.specs.Modify.{KnowsModify}
-use Rattle.jq_syntax.proofs.Computing.{computing_prelude}
+use Rattle.jq_syntax.proofs.shared.Computing.{computing_prelude}
 use Rattle.jq_syntax.specs.laws.Computed.{prelude}
 use Rattle.jq_tree.specs.Prelude.{followed_by}
 use Rattle.jq_tree.specs.Tree.{Name, Tree}

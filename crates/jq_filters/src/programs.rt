@@ -15,9 +15,9 @@ use std::alloc::Global;
 // The number of the prelude's functions up to `_modify`.
 const UP_TO_MODIFY: usize = 36;
 
-/// The bindings around a filter, from the outermost to the innermost: the variables, of which the first comes last, and then
-/// the prelude's functions in their order.
-pub fn bindings_of(
+// The bindings around a filter, from the outermost to the innermost: the variables, of which the first comes last, and then
+// the prelude's functions in their order.
+pub(crate) fn bindings_of(
     alloc: Global,
     variables: Vec<(String, Val)>,
     functions: Vec<Function<Tree>>,
