@@ -1,6 +1,8 @@
 -- What only contracts of private functions cite.
 pub mod Folds
 pub mod Leading
+pub mod Passing
+pub mod Ranges
 pub mod Reaching
 pub mod Tails
 pub mod UpdateEnds

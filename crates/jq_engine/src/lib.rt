@@ -13,10 +13,12 @@ mod operators;
 mod parts;
 mod passing;
 mod putting;
+mod ranges;
 mod running;
 mod small;
 mod stepping;
 mod tails;
+mod through;
 mod turns;
 
 pub use engines::Engine;

@@ -20,6 +20,7 @@ use crate::guards::Guard;
 use crate::parts::{begin_binding, stopped, wait};
 use crate::passing::go_back;
 use crate::putting::{end_without_part, kept_turn};
+use crate::ranges::enter_filter;
 use crate::stepping::deliver;
 use jq_ast::Tree;
 use jq_natives::truth;
@@ -29,7 +30,7 @@ use jq_state::items::Item;
 use jq_state::next::Next;
 use jq_state::states::State;
 use jq_state::steps::{Combining, Step};
-use jq_transitions::{Progress, enter};
+use jq_transitions::Progress;
 use jv_data::{NoMemory, Val};
 use std::alloc::Global;
 use std::mem::replace;
@@ -214,7 +215,7 @@ fn other_tail<'p>(
     if let Some((body, inside)) = called_body(state.nodes(), tree, scope) {
         return Ok(Tail::Filter(body, inside));
     }
-    let next = enter(alloc, state, tree, scope, taken(input), inputs)?;
+    let next = enter_filter(alloc, state, tree, scope, taken(input), inputs)?;
     later_tail(alloc, state, next, input, inputs, guard)
 }
 
