@@ -1,20 +1,25 @@
 -- A `range` between two numbers gives its first one.
-use Rattle.std.proofs.Common.{◌≡◌, ◌∷◌, [], ℤ, pos, List, refl, sym, ap, subst}
+use Rattle.std.proofs.Common.{◌≡◌, ◌∙◌, ◌∷◌, [], ℤ, pos, List, Result, IfOk, refl, sym, ap, subst}
+use Rattle.std.proofs.lemmas.Result.{IfOk-weaker}
 use Rattle.jv_data.specs.Value.{Value, number}
 use Rattle.jq_tree.specs.Tree.{Tree, no_trees, more_trees}
 use Rattle.jq_meaning.specs.Builtins.{range, numbers_up_to}
 use Rattle.jq_meaning.specs.Meaning.{meaning}
 use Rattle.jq_meaning.specs.Runs.{Run, Item, plain, one}
 use Rattle.jq_meaning.specs.machine.Evaluating.{enter, next_argument}
+use Rattle.jq_meaning.specs.machine.Machine.{step}
 use Rattle.jq_meaning.specs.machine.Operations.{deliver}
+use Rattle.jq_meaning.specs.machine.State as machine
 use Rattle.jq_meaning.specs.machine.State.{Scope, Frame, ForkPoint, argument, state, evaluate, give, moves}
 use Rattle.jq_state.specs.Links.{scope_in}
+use Rattle.jq_state.specs.Nexts.{ComesWith}
 use Rattle.jq_state.specs.Views.{envs_in, frames_in, forks_in}
 use Rattle.jq_state.specs.declared.frames.Scope as code
+use Rattle.jq_state.specs.declared.next.Next.{Next}
 use Rattle.jq_state.specs.declared.states.State.{State}
 use Rattle.jq_engine.specs.private.Leading.{at_filter, gives, here, by_transition, by_run}
 use Rattle.jq_engine.specs.private.Ranges.{RangesOver}
-use Rattle.jq_engine.specs.private.Tails.{Arrives}
+use Rattle.jq_engine.specs.private.Tails.{Arrives, ArrivesAt}
 
 -- its bounds run at once
 bounds_run : (q : Scope) (t a b : Tree) (v : Value) (n m : ℤ) (k : List Frame) (fs : List ForkPoint)
@@ -34,3 +39,7 @@ range_begins inputs s t p x n m r =
     let fs = forks_in inputs s in
     subst (λ (y : Item). Arrives (at_filter inputs s t p y) (deliver (numbers_up_to n m (pos 1)) k fs)) (sym r.is_plain)
     (bounds_run (scope_in (envs_in inputs s) p) t r.start r.last r.value n m k fs (r.runs inputs r.value k fs) (r.from inputs) (r.before inputs))
+
+-- the first transition of another filter
+pub enters_at : {E : Type 0} (inputs : Run Value) (before goal : machine.State) (s : State) (r : Result Next E) → step before ≡ moves goal → IfOk r (ComesWith inputs goal s) → IfOk r (ArrivesAt inputs before s)
+enters_at inputs before goal s r e h = IfOk-weaker r _ _ (λ n g. (g.0, record { from = before; advances = here; steps = e ∙ ap moves (sym g.1) })) h

@@ -17,7 +17,6 @@ use crate::folds::{run_step, top_step};
 use crate::guards::Guard;
 use crate::putting::hand_on;
 use crate::tails::begin;
-use crate::through::pass_through;
 use jq_ast::Tree;
 use jq_state::frames::Scope;
 use jq_state::inputs::Inputs;
@@ -31,7 +30,7 @@ use std::alloc::Global;
 // How many items of a fork point are passed on in one step.
 const ITEMS: u32 = 1_000;
 
-// An item goes to the first frame that does not only pass it on; with none it is an output. The filter after a `|`, or the update of a fold, may run
+// An item goes to the first frame that waits; with none it is an output. The filter after a `|`, or the update of a fold, may run
 // at once. `None` means that the filter ended without an output.
 fn pass<'p>(
     alloc: Global,
@@ -42,7 +41,6 @@ fn pass<'p>(
 ) -> Result<Option<Progress<'p>>, NoMemory>
     ensures { IfOk result (GoesOn (inputs_of inputs.now) (at_item (inputs_of inputs.now) state.old (item_of item)) state.new) }
 {
-    pass_through(state);
     if let Some((tree, scope)) = top_pipe(state) {
         state.skip();
         return evaluate(alloc, state, tree, scope, item, inputs, guard);

@@ -46,11 +46,28 @@ pub(crate) fn enter_filter<'p>(
     ensures { IfOk result (ArrivesAt (inputs_of inputs.now) (at_filter (inputs_of inputs.now) state.old (named tree.now) scope (item_of input)) state.new) }
 {
     if is_range(tree) {
-        if let Some((start, end)) = numbers_in(alloc, state.nodes(), tree, scope, &input)? {
-            return give_numbers(alloc, state, start, end);
-        }
+        return enter_range(alloc, state, tree, scope, input, inputs);
     }
     enter(alloc, state, tree, scope, input, inputs)
+}
+
+// The same of a call that refers to `range`.
+#[inline(never)]
+fn enter_range<'p>(
+    alloc: Global,
+    state: &mut State<'p>,
+    tree: &'p Tree,
+    scope: Scope,
+    input: Item,
+    inputs: &Inputs,
+) -> Result<Next<'p>, NoMemory>
+    requires { scope.env < count_of state.old.nodes }
+    ensures { IfOk result (ArrivesAt (inputs_of inputs.now) (at_filter (inputs_of inputs.now) state.old (named tree.now) scope (item_of input)) state.new) }
+{
+    match numbers_in(alloc, state.nodes(), tree, scope, &input)? {
+        Some((start, end)) => give_numbers(alloc, state, start, end),
+        None => enter(alloc, state, tree, scope, input, inputs),
+    }
 }
 
 // Whether a filter is a call of `range` with two bounds. This is only advice.
@@ -71,7 +88,6 @@ fn refers_to_range(name: &Name) -> bool {
 }
 
 // The two numbers, if a filter on an item is a `range` between numbers.
-#[inline(never)]
 fn numbers_in(
     alloc: Global,
     nodes: &Nodes<'_>,

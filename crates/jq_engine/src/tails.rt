@@ -30,7 +30,7 @@ use jq_state::items::Item;
 use jq_state::next::Next;
 use jq_state::states::State;
 use jq_state::steps::{Combining, Step};
-use jq_transitions::Progress;
+use jq_transitions::{Progress, leave};
 use jv_data::{NoMemory, Val};
 use std::alloc::Global;
 use std::mem::replace;
@@ -219,7 +219,8 @@ fn other_tail<'p>(
     later_tail(alloc, state, next, input, inputs, guard)
 }
 
-// What follows a transition: a filter is evaluated in the same step, and an item goes to the frame that waits for it.
+// What follows a transition: a filter is evaluated in the same step, an item goes to the frame that waits for it, and a break to its
+// label.
 #[inline(always)]
 fn later_tail<'p>(
     alloc: Global,
@@ -241,6 +242,10 @@ fn later_tail<'p>(
             guard.earn();
             let progress = deliver(alloc, state, item, inputs, guard)?;
             Ok(Tail::Progress(progress))
+        }
+        Next::Leave(level) => {
+            guard.earn();
+            Ok(Tail::Progress(leave(state, level)))
         }
         other => Ok(Tail::Progress(Progress::Moves(other))),
     }

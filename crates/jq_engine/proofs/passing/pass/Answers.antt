@@ -7,27 +7,27 @@ use Rattle.jq_state.specs.Items.{item_of}
 use Rattle.jq_state.specs.Links.{scope_in}
 use Rattle.jq_state.specs.Views.{envs_in, frames_in, forks_in}
 use Rattle.jq_engine.specs.private.Folds.{source_of}
-use Rattle.jq_engine.specs.private.Leading.{Leads, at_item, here, by_transition}
-use Rattle.jq_engine.proofs.Leading.{and_then, goes_later, later_leads}
+use Rattle.jq_engine.specs.private.Leading.{Leads, here, by_transition}
+use Rattle.jq_engine.proofs.Leading.{goes_later}
 use Rattle.jq_engine.proofs.Pipes.{comes_to_pipe}
 use Rattle.jq_engine.proofs.passing.pass.Goals as goal
 
 pub returns-in-Some : goal.returns-in-Some
 returns-in-Some c =
     let inputs = inputs_of c.args.inputs.now in
-    let s = c.pass_through.new.state in
+    let s = c.args.state.now in
     let skipped = c.skip.new.self in
     let t = named c.in-Some.tree.now in
     let q = c.in-Some.scope in
     let x = item_of c.args.item in
     let frames = c.in-Some.ensures.frames inputs ∙ ap (λ k. pipe_into t (scope_in (envs_in inputs s) q) ∷ k) (sym (c.skip.ensures.frames inputs)) in
-    goes_later inputs (at_item inputs c.args.state.now x) (state (evaluate t (scope_in (envs_in inputs skipped) q) x) (frames_in inputs skipped) (forks_in inputs skipped)) c.evaluate.new.state c.evaluate.result
-    (and_then (c.pass_through.ensures inputs x) (by_transition (comes_to_pipe inputs s skipped t q x c.skip.ensures.envs frames (c.skip.ensures.forks inputs)) here)) c.evaluate.ensures
+    goes_later inputs (state (give x) (frames_in inputs s) (forks_in inputs s)) (state (evaluate t (scope_in (envs_in inputs skipped) q) x) (frames_in inputs skipped) (forks_in inputs skipped)) c.evaluate.new.state c.evaluate.result
+    (by_transition (comes_to_pipe inputs s skipped t q x c.skip.ensures.envs frames (c.skip.ensures.forks inputs)) here) c.evaluate.ensures
 
 pub returns-in-Some-top_step : goal.returns-in-Some-top_step
 returns-in-Some-top_step c =
     let inputs = inputs_of c.args.inputs.now in
-    let s = c.pass_through.new.state in
+    let s = c.args.state.now in
     let skipped = c.skip-in-Some-top_step.new.self in
     let f = c.in-Some-top_step.step in
     let q = c.in-Some-top_step.scope in
@@ -38,12 +38,8 @@ returns-in-Some-top_step c =
     c.in-Some-top_step.ensures.frames inputs
     ∙ ap (λ k. source_of f (scope_in (envs_in inputs s) q) ∷ k) (sym (c.skip-in-Some-top_step.ensures.frames inputs))
     ∙ ap (λ ns. source_of f (scope_in (envs_of inputs ns) q) ∷ frames_in inputs skipped) (sym c.skip-in-Some-top_step.ensures.envs) in
-    later_leads inputs (at_item inputs c.args.state.now x) (at_item inputs s x) u r (c.pass_through.ensures inputs x)
-    (subst (λ k. Leads inputs (state (give x) k (forks_in inputs s)) u r) (sym first)
-    (subst (λ fs. Leads inputs (state (give x) (source_of f (scope_in (envs_in inputs skipped) q) ∷ frames_in inputs skipped) fs) u r) (c.skip-in-Some-top_step.ensures.forks inputs) c.in_ok-progress.ensures))
+    subst (λ k. Leads inputs (state (give x) k (forks_in inputs s)) u r) (sym first)
+    (subst (λ fs. Leads inputs (state (give x) (source_of f (scope_in (envs_in inputs skipped) q) ∷ frames_in inputs skipped) fs) u r) (c.skip-in-Some-top_step.ensures.forks inputs) c.in_ok-progress.ensures)
 
 pub returns : goal.returns
-returns c =
-    let inputs = inputs_of c.args.inputs.now in
-    let x = item_of c.args.item in
-    later_leads inputs (at_item inputs c.args.state.now x) (at_item inputs c.pass_through.new.state x) c.hand_on.new.state c.in_ok-progress-2.progress (c.pass_through.ensures inputs x) (c.in_ok-progress-2.ensures inputs)
+returns c = c.in_ok-progress-2.ensures (inputs_of c.args.inputs.now)
