@@ -3,6 +3,7 @@ pub mod Folds
 pub mod Leading
 pub mod Passing
 pub mod Ranges
+pub mod Simple
 pub mod Reaching
 pub mod Tails
 pub mod UpdateEnds

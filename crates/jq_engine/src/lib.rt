@@ -15,6 +15,7 @@ mod passing;
 mod putting;
 mod ranges;
 mod running;
+mod simple;
 mod small;
 mod stepping;
 mod tails;

@@ -13,15 +13,14 @@ ghost use Rattle.jq_state.specs.Items.{item_of};
 ghost use Rattle.jq_state.specs.Nexts.{ComesTo};
 ghost use Rattle.jq_state.specs.Views.{frames_in, forks_in};
 ghost use Rattle.jq_engine.specs.private.Leading.{at_filter};
-ghost use Rattle.jq_engine.specs.private.Ranges.{GivesNumber, RangesOver, RunsRange};
+ghost use Rattle.jq_engine.specs.private.Ranges.{RangesOver, RunsRange};
+ghost use Rattle.jq_engine.specs.private.Simple.{GivesOne};
 ghost use Rattle.jq_engine.specs.private.Tails.{ArrivesAt};
 
-use crate::at_once::change;
-use crate::small::is_simple;
+use crate::simple::simple_output;
 use jq_ast::{Core, Name, Referent, Tree};
 use jq_operations::delivery::deliver;
 use jq_operations::{Builtin, Callee, Outputs, builtin_named, find_callee};
-use jq_single::Stop;
 use jq_state::environments::Nodes;
 use jq_state::frames::Scope;
 use jq_state::inputs::Inputs;
@@ -88,10 +87,10 @@ fn refers_to_range(name: &Name) -> bool {
 }
 
 // The two numbers, if a filter on an item is a `range` between numbers.
-fn numbers_in(
+fn numbers_in<'p>(
     alloc: Global,
-    nodes: &Nodes<'_>,
-    tree: &Tree,
+    nodes: &Nodes<'p>,
+    tree: &'p Tree,
     scope: Scope,
     input: &Item,
 ) -> Result<Option<(i64, i64)>, NoMemory>
@@ -113,8 +112,8 @@ fn numbers_in(
     }
 }
 
-// The bounds, if a filter is a `range` and they are simple.
-fn bounds_in<'t>(nodes: &Nodes<'_>, tree: &'t Tree, scope: Scope) -> Option<(&'t Tree, &'t Tree)>
+// The two bounds, if a filter is a call of `range`.
+fn bounds_in<'p>(nodes: &Nodes<'p>, tree: &'p Tree, scope: Scope) -> Option<(&'p Tree, &'p Tree)>
     requires { scope.env < count_of nodes.now }
     ensures { IfSome result (λ r. RunsRange nodes.now (named tree.now) scope (named r.0.now) (named r.1.now)) }
 {
@@ -124,22 +123,19 @@ fn bounds_in<'t>(nodes: &Nodes<'_>, tree: &'t Tree, scope: Scope) -> Option<(&'t
     }
 }
 
-// The same of a call.
-fn bounds_of<'t>(
-    nodes: &Nodes<'_>,
+// The same of a name and the arguments.
+fn bounds_of<'p>(
+    nodes: &Nodes<'p>,
     name: &Name,
-    arguments: &'t [Tree],
+    arguments: &'p [Tree],
     scope: Scope,
-) -> Option<(&'t Tree, &'t Tree)>
+) -> Option<(&'p Tree, &'p Tree)>
     requires { scope.env < count_of nodes.now }
     ensures { IfSome result (λ r. RunsRange nodes.now (form.call (name_of name.now) (trees_of (map named arguments.now))) scope (named r.0.now) (named r.1.now)) }
 {
     let [start, end] = arguments else {
         return None;
     };
-    if !is_simple(start) || !is_simple(end) {
-        return None;
-    }
     match find_callee(nodes, name, 2, scope.env) {
         Callee::NoCallee => {}
         _ => return None,
@@ -150,22 +146,20 @@ fn bounds_of<'t>(
     }
 }
 
-// The number, if a filter runs at once on a value and gives a number.
-fn number_of(
+// The number that a simple filter gives for a value, if it gives one.
+fn number_of<'p>(
     alloc: Global,
-    nodes: &Nodes<'_>,
-    tree: &Tree,
+    nodes: &Nodes<'p>,
+    tree: &'p Tree,
     scope: Scope,
     value: &Val,
 ) -> Result<Option<i64>, NoMemory>
     requires { scope.env < count_of nodes.now }
-    ensures { IfOk result (λ o. IfSome o (GivesNumber nodes.now (named tree.now) scope (view value.now))) }
+    ensures { IfOk result (λ o. IfSome o (λ n. GivesOne nodes.now (named tree.now) scope (view value.now) (number n))) }
 {
-    let mut value = value.copy()?;
-    match change(alloc, nodes, tree, scope, &mut value) {
-        Ok(()) => Ok(as_number(&value)),
-        Err(Stop::NoMemory) => Err(NoMemory),
-        Err(_) => Ok(None),
+    match simple_output(alloc, nodes, tree, scope, value)? {
+        Some(output) => Ok(as_number(&output)),
+        None => Ok(None),
     }
 }
 

@@ -1,21 +1,16 @@
--- `range` between two numbers that filters give.
+-- `range` between two numbers.
 use Rattle.std.specs.Prelude.{◌≡◌, ℤ, List, []}
 use Rattle.jv_data.specs.Value.{Value, number}
 use Rattle.jq_tree.specs.Tree.{Tree, no_trees, more_trees}
 use Rattle.jq_meaning.specs.Builtins.{range}
-use Rattle.jq_meaning.specs.Meaning.{meaning}
-use Rattle.jq_meaning.specs.Runs.{Run, Item, plain, one}
+use Rattle.jq_meaning.specs.Runs.{Run, Item, plain}
 use Rattle.jq_meaning.specs.machine.Evaluating.{enter, next_argument}
 use Rattle.jq_meaning.specs.machine.State.{Frame, ForkPoint}
 use Rattle.jq_state.specs.Environments.{envs_of}
 use Rattle.jq_state.specs.Links.{scope_in}
-use Rattle.jq_state.specs.Nodes.{env_at}
 use Rattle.jq_state.specs.declared.environments.Nodes.{Nodes}
 use Rattle.jq_state.specs.declared.frames.Scope.{Scope}
-
--- The only output of a filter on a value is this number.
-abbrev pub GivesNumber : Nodes → Tree → Scope → Value → ℤ → Type 0
-GivesNumber ns t p v n = (inputs : Run Value) → let q = scope_in (envs_of inputs ns) p in meaning q.depth t q.env q.level (plain v) ≡ one (plain (number n))
+use Rattle.jq_engine.specs.private.Simple.{GivesOne}
 
 -- The first transition of a filter on a value is that of a `range` with these bounds.
 abbrev pub RunsRange : Nodes → Tree → Scope → (start last : Tree) → Type 0
@@ -30,5 +25,5 @@ pub record RangesOver (ns : Nodes) (t : Tree) (p : Scope) (x : Item) (n m : ℤ)
   pub value : Value
   pub is_plain : x ≡ plain value
   pub runs : RunsRange ns t p start last
-  pub from : GivesNumber ns start p value n
-  pub before : GivesNumber ns last p value m
+  pub from : GivesOne ns start p value (number n)
+  pub before : GivesOne ns last p value (number m)
