@@ -1,4 +1,5 @@
 pub mod AtOnce
+pub mod Bindings
 pub mod Covering
 pub mod Fitting
 pub mod Leading

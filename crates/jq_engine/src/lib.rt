@@ -4,6 +4,7 @@
 #![tactic(auto)]
 
 mod at_once;
+mod bindings;
 mod bodies;
 mod doing;
 mod engines;

@@ -15,9 +15,10 @@ ghost use Rattle.jq_state.specs.Nexts.{NextFits, stands};
 ghost use Rattle.jq_engine.specs.private.Tails.{Follows, FollowsAfter};
 
 use crate::at_once::{change, run_at_once};
+use crate::bindings::bind_tail;
 use crate::bodies::called_body;
 use crate::guards::Guard;
-use crate::parts::{begin_binding, stopped, wait};
+use crate::parts::{stopped, wait};
 use crate::passing::go_back;
 use crate::putting::{end_without_part, kept_turn};
 use crate::ranges::enter_filter;
@@ -188,11 +189,9 @@ fn first_tail<'p>(
             )
         }
         Tree::BindAs(source, pattern, body) => {
-            let input = taken(input);
-            let progress = begin_binding(
+            bind_tail(
                 alloc, state, source, pattern, body, scope, input, inputs, guard,
-            )?;
-            Ok(Tail::Progress(progress))
+            )
         }
         _ => other_tail(alloc, state, tree, scope, input, inputs, guard),
     }
@@ -329,9 +328,9 @@ fn branch_for<'p>(test: &Val, holds: &'p Tree, fails: &'p Tree) -> &'p Tree
     if truth(test) { holds } else { fails }
 }
 
-// Takes an item, and leaves null.
+/// Takes an item, and leaves null.
 #[inline(always)]
-fn taken(input: &mut Item) -> Item
+pub(crate) fn taken(input: &mut Item) -> Item
     ensures { result ≡ input.old }
 {
     replace(input, Item::plain(Val::Null))
