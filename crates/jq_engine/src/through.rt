@@ -17,9 +17,10 @@ use jq_state::steps::{Holding, Step};
 pub(crate) fn pass_through(state: &mut State<'_>)
     ensures { (inputs : Run Value) (x : runs.Item) → Advances (at_item inputs state.old x) (at_item inputs state.new x) }
 {
-    if passes_first(state) {
-        skip_passing(state);
+    if !passes_first(state) {
+        return;
     }
+    skip_passing(state);
 }
 
 #[inline(never)]

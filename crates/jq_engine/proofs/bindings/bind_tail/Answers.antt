@@ -38,7 +38,7 @@ returns-in-Some c =
     let x = item_of c.args.input.now in
     let added = c.in_ok-env.ensures in
     let u = c.add.new.self in
-    let one : BindsOne s.nodes t (named_as_pattern c.args.pattern.now) q v n w = subst (λ (ns : Nodes). BindsOne ns t (named_as_pattern c.args.pattern.now) q v n w) c.nodes.ensures c.in-Some.ensures in
+    let one : BindsOne s.nodes t (named_as_pattern c.args.pattern.now) q v n w = subst (λ (ns : Nodes). BindsOne ns t (named_as_pattern c.args.pattern.now) q v n w) c.nodes.ensures (rw c.in-Some.is at c.in_ok-name.ensures) in
     let arrived : Arrives (at_filter inputs s (bind_as t (named_as_pattern c.args.pattern.now) f) q x) (state (evaluate f (with_env (bound (value_of n w) p.env) p) x) k fs) =
     subst (λ (o : Pattern). Arrives (at_filter inputs s (bind_as t o f) q x) (state (evaluate f (with_env (bound (value_of n w) p.env) p) x) k fs)) (sym one.0)
     (binds p t f n x v w k fs (value_alone c.args.input.now v refl) (λ l. one.1 inputs l fs)) in

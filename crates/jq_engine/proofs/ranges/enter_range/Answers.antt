@@ -19,7 +19,7 @@ returns-in-Some c =
     let x = item_of c.args.input in
     let n = c.in-Some.start in
     let m = c.in-Some.end in
-    let over : RangesOver s.nodes t p x n m = subst (λ (ns : Nodes). RangesOver ns t p x n m) c.nodes.ensures c.in-Some.ensures in
+    let over : RangesOver s.nodes t p x n m = subst (λ (ns : Nodes). RangesOver ns t p x n m) c.nodes.ensures (rw c.in-Some.is at c.in_ok-start.ensures) in
     IfOk-weaker c.give_numbers.result _ _ (λ next h. (h.0, subst (Arrives (at_filter inputs s t p x)) (sym (h.1 inputs)) (range_begins inputs s t p x n m over))) c.give_numbers.ensures
 
 pub returns-in-None : goal.returns-in-None
