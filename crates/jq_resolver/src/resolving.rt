@@ -1,11 +1,8 @@
 // Sets what all names of a tree refer to.
 ghost use Rattle.std.specs.Prelude.{◌≡◌, true, length, OnOk};
-ghost use Rattle.jq_ast.specs.Bound.{function_at};
 ghost use Rattle.jq_ast.specs.Named.{name_of, named};
-ghost use Rattle.jq_tree.specs.Binders.{prelude_binder};
-ghost use Rattle.jq_tree.specs.Names.{to_function};
 ghost use Rattle.jq_resolver.specs.private.Forms.{is_binder, is_pair};
-ghost use Rattle.jq_resolver.specs.private.Resolved.{Chain, IsDefinitionResolved, IsEntryResolved, IsPartResolved, IsPatternResolved, IsPieceResolved, IsResolved};
+ghost use Rattle.jq_resolver.specs.private.Resolved.{Chain, IsDefinitionResolved, IsEntryResolved, IsInPrelude, IsPartResolved, IsPatternResolved, IsPieceResolved, IsResolved};
 ghost use Rattle.jq_resolver.specs.private.Scopes.{ResolvedIn, bound_names};
 
 use crate::bindings::Kind;
@@ -279,8 +276,7 @@ fn resolve_update(
     parts: &mut [Tree; 2],
 ) -> Result<(), NoMemory>
     ensures same { OnOk result (name_of modify.new.name ≡ name_of modify.old.name) }
-    ensures bound { OnOk result (function_at modify.new.name (length parts.old) (length (bound_names scope.old))
-        ≡ prelude_binder (bound_names scope.old) (to_function (name_of modify.old.name) (length parts.old))) }
+    ensures bound { OnOk result (IsInPrelude (bound_names scope.old) (length parts.old) modify.old.name modify.new.name) }
     ensures resolved { OnOk result (Chain IsResolved (bound_names scope.old) (bound_names scope.new) parts.old parts.new) }
 {
     refer_to_prelude(scope, &mut modify.name, 2)?;

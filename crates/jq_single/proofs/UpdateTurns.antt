@@ -1,6 +1,5 @@
 -- What is claimed of updates.
-use Rattle.std.proofs.Common.{◌≡◌, ◌∙◌, ℕ, suc, ◌+◌, ◌<◌, List, [], ◌∷◌, ◌++◌, length, get_or, drop, map, Result, Ok, Err, codes, refl, sym, ap, subst, arith}
-use Rattle.std.proofs.lemmas.List.{at_drop_more}
+use Rattle.std.proofs.Common.{◌≡◌, ◌∙◌, ℕ, suc, ◌+◌, List, [], ◌∷◌, ◌++◌, length, get_or, map, Result, Ok, Err, codes, refl, sym, ap, subst, arith}
 use Rattle.jv_arith.specs.Arith.{add_of}
 use Rattle.jv_data.proofs.shared.Levels.{view-List}
 use Rattle.jv_data.specs.Shared.{items_in}
@@ -26,12 +25,11 @@ use Rattle.jq_meaning.specs.Runs.{Item, plain, located, value_in, Ending, Done, 
 use Rattle.jq_meaning.specs.updates.Known.{HasModify}
 use Rattle.jq_meaning.specs.laws.Updates.{ModifyStays}
 use Rattle.jq_meaning.specs.laws.Updating.{with_answer, on_outputs, turn_of, turns, updated, update_run}
-use Rattle.jq_single.specs.Single.{Changed, Ends}
+use Rattle.jq_single.specs.Single.{Changed}
 use Rattle.jq_single.specs.declared.stops.Stop.{Stop}
 use Rattle.jq_single.specs.declared.stops.Stop.TheVariants as stop
 use Rattle.jq_single.specs.private.FirstOutputs.{first_alone}
 use Rattle.jq_single.specs.private.Gathering.{GoesOn}
-use Rattle.jq_single.proofs.Folded.{values_first}
 
 -- ---- the call of `_modify`
 
@@ -135,14 +133,6 @@ module _ (k : ℕ) (x ds p : Value) (go : Value → Value → Run Item) where
 
     pub turn_raises : (e : Value) → first_alone (g part) ≡ fail e → turn_of k g p x ds go ≡ fail e
     turn_raises e h = turned ∙ raised (g part).items (g part).ending e h
-
--- ---- the turns at some paths
-
-module _ (k : ℕ) (g : Value → Run Item) (paths : List Val) (i : ℕ) (path : Val) (v ds : Value) (within : i < length paths) (is : path ≡ get_or paths i path) where
-  pub first_turn : turns k g (map view (drop i paths)) Done v ds ≡ turn_of k g (view path) v ds (turns k g (map view (drop (i + 1) paths)) Done)
-  first_turn =
-      at_drop_more (λ qs. turns k g (map view qs) Done v ds) paths i path within
-      ∙ ap (λ q. turn_of k g (view q) v ds (turns k g (map view (drop (i + 1) paths)) Done)) (sym is)
 
 -- a path is added to the list
 pub listed_more : (ds es : List Value) (p : Value) → es ≡ ds ++ p ∷ [] → add_of (array (items_of ds)) (array (items_of (p ∷ []))) ≡ Ok (array (items_of es))

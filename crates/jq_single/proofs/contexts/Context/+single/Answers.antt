@@ -48,7 +48,7 @@ use Rattle.jq_single.proofs.Gathered.{gathers-none, gathers-then, gathers-fail, 
 use Rattle.jq_single.proofs.Folded.{fold_value, turned, fold_ends, single_fold}
 use Rattle.jq_single.proofs.FirstOutputs.{answers-first, changed-first, first-then}
 use Rattle.jq_single.proofs.Sets.{changed-prop}
-use Rattle.jq_single.proofs.UpdateTurns.{first_turn, getpath_keys, known_paths, listed_more, modify_tree, turn_lists, turn_raises, turn_sets, two_calls_deep}
+use Rattle.jq_single.proofs.UpdateTurns.{getpath_keys, known_paths, listed_more, modify_tree, turn_lists, turn_raises, turn_sets, two_calls_deep}
 use Rattle.jq_single.proofs.Located.{path_given, path_of_builtin, paths-rest}
 use Rattle.jq_single.proofs.Bodies.{body_runs, builtin_runs, closure_runs, function_runs, named-Identity, prelude_runs}
 use Rattle.jq_single.proofs.GivenArguments.{native_plain, two_chosen}
