@@ -4,7 +4,7 @@ use Rattle.std.specs.Result.{IsErrAnd}
 use Rattle.jv_data.specs.Value.{Value, boolean}
 use Rattle.jv_data.specs.declared.values.Val.{Val}
 use Rattle.jq_natives.specs.Answers.{is_true}
-use Rattle.jq_meaning.specs.Continuations.{truth, on_conjunct, on_disjunct, on_test, on_error, on_source, in_bindings}
+use Rattle.jq_meaning.specs.Continuations.{truth, on_conjunct, on_disjunct, on_error, on_source, in_bindings}
 use Rattle.jq_tree.specs.Tree.{Name}
 use Rattle.jq_tree.specs.Tree as tree
 use Rattle.jq_meaning.specs.Env.{Env, bound, value_of}
@@ -74,8 +74,6 @@ pub goes-changed : {A : Type 0} (a : Result A Stop) (w : Value) (r : Run Item) �
 goes-changed (Ok d) w r h = h
 goes-changed (Err s) w r h = h
 
--- ---- keys
-
 -- ---- conditions
 
 pub and_goes : (a : Result Val Stop) (l : Run Item) (w : Value) (right : Item → Run Item) (x : Item) → l ≡ one (plain w) → is_true w ≡ true → Answers a (bind (right x) truth) → Answers a (bind l (on_conjunct right x))
@@ -93,22 +91,6 @@ or_goes a l w right x e t h = answers-bind a l (plain w) (on_disjunct right x) e
 pub or_stops : (l : Run Item) (w : Value) (right : Item → Run Item) (x : Item) → l ≡ one (plain w) → is_true w ≡ true → bind l (on_disjunct right x) ≡ one (plain (boolean true))
 unfolding on_disjunct
 or_stops l w right x e t = bind-known l (plain w) (on_disjunct right x) e ∙ rw (t, on_disjunct) refl
-
-pub test_holds : (a : Result Val Stop) (l : Run Item) (w : Value) (holds fails : Item → Run Item) (x : Item) → l ≡ one (plain w) → is_true w ≡ true → Answers a (holds x) → Answers a (bind l (on_test holds fails x))
-unfolding on_test
-test_holds a l w holds fails x e t h = answers-bind a l (plain w) (on_test holds fails x) e (rw (t, on_test) h)
-
-pub test_fails : (a : Result Val Stop) (l : Run Item) (w : Value) (holds fails : Item → Run Item) (x : Item) → l ≡ one (plain w) → is_true w ≡ false → Answers a (fails x) → Answers a (bind l (on_test holds fails x))
-unfolding on_test
-test_fails a l w holds fails x e t h = answers-bind a l (plain w) (on_test holds fails x) e (rw (t, on_test) h)
-
-pub changed_holds : {A : Type 0} (a : Result A Stop) (v : Value) (l : Run Item) (w : Value) (holds fails : Item → Run Item) (x : Item) → l ≡ one (plain w) → is_true w ≡ true → Changed a v (holds x) → Changed a v (bind l (on_test holds fails x))
-unfolding on_test
-changed_holds a v l w holds fails x e t h = changed-bind a v l (plain w) (on_test holds fails x) e (rw (t, on_test) h)
-
-pub changed_fails : {A : Type 0} (a : Result A Stop) (v : Value) (l : Run Item) (w : Value) (holds fails : Item → Run Item) (x : Item) → l ≡ one (plain w) → is_true w ≡ false → Changed a v (fails x) → Changed a v (bind l (on_test holds fails x))
-unfolding on_test
-changed_fails a v l w holds fails x e t h = changed-bind a v l (plain w) (on_test holds fails x) e (rw (t, on_test) h)
 
 pub truth_of : (l : Run Item) (w : Value) (b : Bool) → l ≡ one (plain w) → b ≡ is_true w → bind l truth ≡ one (plain (boolean b))
 unfolding truth

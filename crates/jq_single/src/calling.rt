@@ -1,4 +1,4 @@
-// Calls of one output, and those whose output replaces their input.
+// Calls whose output replaces their input.
 ghost use Rattle.std.specs.Prelude.{◌≡◌, map};
 ghost use Rattle.jv_data.specs.Value.{Value};
 ghost use Rattle.jv_data.specs.View.{view};
@@ -10,64 +10,22 @@ ghost use Rattle.jq_meaning.specs.Builtins.{plain_native};
 ghost use Rattle.jq_meaning.specs.Builtins as meaning;
 ghost use Rattle.jq_meaning.specs.Runs.{Run};
 ghost use Rattle.jq_single.specs.Single.{Changed, Keeps};
-ghost use Rattle.jq_single.specs.private.Parts.{ChangesBelow, ChangesByBuiltin, ChangesByNative, ChangesTo, RunsBelow, RunsBuiltin, RunsTo};
-ghost use Rattle.jq_single.specs.private.Natives.{RunsNative};
+ghost use Rattle.jq_single.specs.private.Parts.{ChangesBelow, ChangesByBuiltin, ChangesByNative, ChangesTo, RunsBuiltin};
 ghost use Rattle.jq_single.specs.private.Scopes.{body_env, scope_env};
 
 use crate::contexts::Context;
 use crate::finding::{Found, callee_of, prelude_of};
 use crate::scopes::Scope;
-use crate::stops::{Stop, answer};
+use crate::stops::Stop;
 use jq_ast::{Function, Name, Tree};
-use jq_natives::{Native, call, call_in_place};
+use jq_natives::{Native, call_in_place};
 use jq_operations::{Builtin, builtin_named};
 use jv_data::{Fail, Val};
 use std::alloc::Global;
 use std::mem::replace;
 
 impl<'s> Context<'s> {
-    /// `a(f; g)`: a call of a function, of a filter that was passed, or of a name of the language.
-    #[cycle(single)]
-    #[inline(never)]
-    pub(crate) fn get_call(
-        &self,
-        name: &Name,
-        arguments: &'s Vec<Tree>,
-        value: &Val,
-    ) -> Result<Val, Stop>
-        ensures { RunsTo self.now (form.call (name_of name.now) (trees_of (map named arguments.now.items))) (view value.now) result }
-    {
-        let count = arguments.len();
-        match callee_of(self.scope, name, count) {
-            Found::Function(function, own) => {
-                let scope = scope_of_call(&own, &*function, &*arguments, &*self.scope);
-                (&*self).get_body(&function.body, &scope, value)
-            }
-            Found::Closure(body, own) => self.get_body(body, &own, value),
-            Found::Nothing => {
-                let builtin = builtin_named(name.text.as_str(), count);
-                self.get_builtin(builtin, arguments.as_slice(), value)
-            }
-        }
-    }
-
-    // Runs a body in its own scope, with a call depth that is smaller by one.
-    #[cycle(single)]
-    fn get_body(&self, body: &'s Tree, own: &Scope<'s>, value: &Val) -> Result<Val, Stop>
-        ensures { RunsBelow self.now own.now (named body.now) (view value.now) result }
-    {
-        if self.depth == 0 {
-            return Err(Stop::Unknown);
-        }
-        let inside = Context {
-            scope: &*own,
-            depth: self.depth - 1,
-            ..*self
-        };
-        inside.get(&*body, value)
-    }
-
-    /// A name of the language. `setpath` and `delpaths` would copy the value, so they are not run at once here.
+    /// The answer of a name of the language on a value that is kept replaces a copy of it.
     #[cycle(single)]
     pub(crate) fn get_builtin(
         &self,
@@ -77,29 +35,14 @@ impl<'s> Context<'s> {
     ) -> Result<Val, Stop>
         ensures { RunsBuiltin self.now (meaning_of builtin) (trees_of (map named arguments.now)) (view value.now) result }
     {
-        match builtin {
-            Builtin::NoOutputs => Err(Stop::Nothing),
-            Builtin::Native(Native::SetPath) => Err(Stop::Unknown),
-            Builtin::Native(Native::DelPaths) => Err(Stop::Unknown),
-            Builtin::Native(native) => self.get_native(native, arguments, value),
-            Builtin::Paths => self.get_path(arguments, value),
-            _ => Err(Stop::Unknown),
-        }
-    }
-
-    // A native with at most one argument.
-    #[cycle(single)]
-    #[inline(never)]
-    fn get_native(&self, native: Native, arguments: &'s [Tree], value: &Val) -> Result<Val, Stop>
-        ensures { RunsNative self.now native (trees_of (map named arguments.now)) (view value.now) result }
-    {
-        match arguments {
-            [] => answer(call(self.alloc, native, value, &[])),
-            [argument] => {
-                let only = self.get(argument, value)?;
-                answer(call(self.alloc, native, value, &[only]))
-            }
-            _ => Err(Stop::Unknown),
+        let inside = Context {
+            kept: true,
+            ..*self
+        };
+        let mut output = value.copy()?;
+        match inside.change_builtin(builtin, arguments, &mut output) {
+            Ok(()) => Ok(output),
+            Err(stop) => Err(stop),
         }
     }
 

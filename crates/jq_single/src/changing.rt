@@ -105,7 +105,7 @@ impl<'s> Context<'s> {
         ensures runs { ChangesTo self.now (named tree.now) (view value.old) (view value.new) result }
         ensures keeps { Keeps result (view value.old) (view value.new) }
     {
-        match self.get(tree, value) {
+        match self.get_made(tree, value) {
             Ok(output) => {
                 *value = output;
                 Ok(())
@@ -122,10 +122,7 @@ impl<'s> Context<'s> {
         ensures runs { ChangesTo self.now (named tree.now) (view value.old) (view value.new) result }
         ensures keeps { Keeps result (view value.old) (view value.new) }
     {
-        if self.kept {
-            return self.change_kept(tree, value);
-        }
-        if goes_over_all(first) || is_cheap(value) {
+        if self.kept || goes_over_all(first) || is_cheap(value) {
             self.change_kept(tree, value)
         } else {
             Err(Stop::Unknown)
@@ -145,6 +142,10 @@ impl<'s> Context<'s> {
         ensures runs { ChangesTo self.now (form.binary (operator_of operator) (named left.now) (named right.now)) (view value.old) (view value.new) result }
         ensures keeps { Keeps result (view value.old) (view value.new) }
     {
+        if let Some(told) = self.compared(operator, left, right, value) {
+            *value = Val::Bool(told);
+            return Ok(());
+        }
         let second = self.get_part(right, value)?;
         match self.change(left, value) {
             Ok(()) => operate_in_place(self.alloc, operator, value, &second),

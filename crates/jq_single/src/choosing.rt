@@ -51,26 +51,6 @@ impl<'s> Context<'s> {
         Ok(Val::Bool(truth(&output)))
     }
 
-    /// `if f then g else h end`.
-    #[cycle(single)]
-    #[inline(never)]
-    pub(crate) fn choice(
-        &self,
-        condition: &'s Tree,
-        holds: &'s Tree,
-        fails: &'s Tree,
-        value: &Val,
-    ) -> Result<Val, Stop>
-        ensures { RunsTo self.now (form.choice (named condition.now) (named holds.now) (named fails.now)) (view value.now) result }
-    {
-        let test = self.get(condition, value)?;
-        if truth(&test) {
-            self.get(holds, value)
-        } else {
-            self.get(fails, value)
-        }
-    }
-
     /// `f // g`.
     #[cycle(single)]
     #[inline(never)]

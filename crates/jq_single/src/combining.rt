@@ -1,6 +1,5 @@
 // Filters that compute a value from those of their parts.
 ghost use Rattle.jv_data.specs.View.{view};
-ghost use Rattle.jq_ast.specs.Leaves.{operator_of};
 ghost use Rattle.jq_ast.specs.Named.{named};
 ghost use Rattle.jq_tree.specs.Tree as form;
 ghost use Rattle.jq_meaning.specs.Continuations.{negated};
@@ -8,10 +7,9 @@ ghost use Rattle.jq_meaning.specs.Runs.{plain};
 ghost use Rattle.jq_single.specs.private.Parts.{Answers, RunsTo};
 
 use crate::contexts::Context;
-use crate::operators::operate;
 use crate::rests::Rest;
 use crate::stops::{Stop, answer};
-use jq_ast::{Operator, Tree};
+use jq_ast::Tree;
 use jq_state::items::Item;
 use jv_arith::neg;
 use jv_data::{Array, Val};
@@ -26,26 +24,6 @@ impl<'s> Context<'s> {
     {
         let between = self.get(first, value)?;
         self.get(second, &between)
-    }
-
-    /// `f + g`: the right operand is run first.
-    #[cycle(single)]
-    #[inline(never)]
-    pub(crate) fn binary(
-        &self,
-        operator: Operator,
-        left: &'s Tree,
-        right: &'s Tree,
-        value: &Val,
-    ) -> Result<Val, Stop>
-        ensures { RunsTo self.now (form.binary (operator_of operator) (named left.now) (named right.now)) (view value.now) result }
-    {
-        if let Some(told) = self.compared(operator, left, right, value) {
-            return Ok(Val::Bool(told));
-        }
-        let second = self.get_part(right, value)?;
-        let first = self.get_part(left, value)?;
-        operate(self.alloc, operator, first, &second)
     }
 
     /// `-f`.

@@ -40,48 +40,33 @@ impl<'s> Context<'s> {
             fuel: self.fuel - 1,
             ..*self
         };
-        inside.gather_form(tree, item, rest, into)
-    }
-
-    // The same, with the fuel for the parts.
-    #[cycle(single)]
-    #[inline(always)]
-    fn gather_form(
-        &self,
-        tree: &'s Tree,
-        item: &Item,
-        rest: &Rest<'s>,
-        into: &mut Vec<Val>,
-    ) -> Result<(), Stop>
-        ensures { GathersOf self.now (named tree.now) (item_of item.now) rest.now result into.old.items into.new.items }
-    {
         match tree {
-            Tree::Identity => self.give(item.copy()?, rest, into),
+            Tree::Identity => inside.give(item.copy()?, rest, into),
             Tree::Iterate(target, guarded) => {
-                self.gather_parts(target, *guarded, item, rest, into)
+                inside.gather_parts(target, *guarded, item, rest, into)
             }
             Tree::Field(target, key, guarded) if item.path.is_present() => {
-                self.gather_field(target, key, *guarded, item, rest, into)
+                inside.gather_field(target, key, *guarded, item, rest, into)
             }
             Tree::Index(target, key, guarded) if item.path.is_present() => {
-                self.gather_index(target, key, *guarded, item, rest, into)
+                inside.gather_index(target, key, *guarded, item, rest, into)
             }
-            Tree::Pipe(first, second) => self.gather_pipe(first, second, item, rest, into),
-            Tree::Comma(first, second) => self.gather_comma(first, second, item, rest, into),
+            Tree::Pipe(first, second) => inside.gather_pipe(first, second, item, rest, into),
+            Tree::Comma(first, second) => inside.gather_comma(first, second, item, rest, into),
             Tree::Choice(condition, holds, fails) => {
-                self.gather_choice(condition, holds, fails, item, rest, into)
+                inside.gather_choice(condition, holds, fails, item, rest, into)
             }
             Tree::BindAs(source, pattern, body) => {
-                self.gather_binding(source, pattern, body, item, rest, into)
+                inside.gather_binding(source, pattern, body, item, rest, into)
             }
             Tree::Define(function, later) => {
-                self.gather_define(function, later, item, rest, into)
+                inside.gather_define(function, later, item, rest, into)
             }
-            Tree::Call(name, arguments) => self.gather_call(name, arguments, item, rest, into),
+            Tree::Call(name, arguments) => inside.gather_call(name, arguments, item, rest, into),
             Tree::PreludeCall(name, arguments) => {
-                self.gather_prelude_call(name, arguments, item, rest, into)
+                inside.gather_prelude_call(name, arguments, item, rest, into)
             }
-            _ => self.gather_one(tree, item, rest, into),
+            _ => inside.gather_one(tree, item, rest, into),
         }
     }
 

@@ -1,4 +1,4 @@
-// The output of a filter on a value that is kept.
+// The output of a filter on a value that is kept. Filters that may change their input replace a copy of it.
 ghost use Rattle.std.specs.Prelude.{◌≡◌, false};
 ghost use Rattle.jv_data.specs.View.{view};
 ghost use Rattle.jq_ast.specs.Named.{named};
@@ -25,7 +25,17 @@ impl<'s> Context<'s> {
             fuel: self.fuel - 1,
             ..*self
         };
-        inside.get_form(tree, value)
+        match tree {
+            Tree::Binary(_, _, _) => inside.get_changed(tree, value),
+            Tree::Choice(_, _, _) => inside.get_changed(tree, value),
+            Tree::BindAs(_, _, _) => inside.get_changed(tree, value),
+            Tree::Define(_, _) => inside.get_changed(tree, value),
+            Tree::Call(_, _) => inside.get_changed(tree, value),
+            Tree::PreludeCall(_, _) => inside.get_changed(tree, value),
+            Tree::Update(_, _) => inside.get_changed(tree, value),
+            Tree::Reduce(_, _, _, _) => inside.get_changed(tree, value),
+            _ => inside.get_made(tree, value),
+        }
     }
 
     /// The same for a part that is often the input or a constant.
@@ -41,10 +51,10 @@ impl<'s> Context<'s> {
         }
     }
 
-    // The same, with the fuel for the parts.
+    /// The output of a filter that makes a value from those of its parts.
     #[cycle(single)]
-    #[inline(always)]
-    fn get_form(&self, tree: &'s Tree, value: &Val) -> Result<Val, Stop>
+    #[inline(never)]
+    pub(crate) fn get_made(&self, tree: &'s Tree, value: &Val) -> Result<Val, Stop>
         ensures { RunsTo self.now (named tree.now) (view value.now) result }
     {
         match tree {
@@ -58,7 +68,6 @@ impl<'s> Context<'s> {
             Tree::Index(target, key, guarded) => self.index(target, key, *guarded, value),
             Tree::Slice(target, from, to, guarded) => self.slice(target, from, to, *guarded, value),
             Tree::Pipe(first, second) => self.pipe(first, second, value),
-            Tree::Binary(operator, left, right) => self.binary(*operator, left, right, value),
             Tree::And(left, right) => self.and(left, right, value),
             Tree::Or(left, right) => self.or(left, right, value),
             Tree::Alternative(left, right) => self.alternative(left, right, value),
@@ -66,15 +75,6 @@ impl<'s> Context<'s> {
             Tree::Array(filter) => self.array(filter, value),
             Tree::Object(entries) => self.object(entries.as_slice(), value),
             Tree::TryCatch(body, handler) => self.try_catch(body, handler, value),
-            Tree::Reduce(source, pattern, start, update) => {
-                self.reduce(source, pattern, start, update, value)
-            }
-            Tree::Choice(condition, holds, fails) => self.choice(condition, holds, fails, value),
-            Tree::Call(name, arguments) => self.get_call(name, arguments, value),
-            Tree::BindAs(_, _, _) => self.get_changed(tree, value),
-            Tree::Define(_, _) => self.get_changed(tree, value),
-            Tree::PreludeCall(_, _) => self.get_changed(tree, value),
-            Tree::Update(_, _) => self.get_changed(tree, value),
             _ => Err(Stop::Unknown),
         }
     }

@@ -5,26 +5,13 @@ ghost use Rattle.jq_ast.specs.Leaves as leaves;
 ghost use Rattle.jq_meaning.specs.Continuations.{on_left};
 ghost use Rattle.jq_meaning.specs.Runs.{plain};
 ghost use Rattle.jq_single.specs.Single.{Changed, Keeps};
-ghost use Rattle.jq_single.specs.private.Parts.{Answers};
 
-use crate::stops::{Stop, answer};
+use crate::stops::Stop;
 use jq_ast::Operator;
 use jq_operations::operated;
 use jv_data::{Fail, Val};
 use std::alloc::Global;
 use std::mem::replace;
-
-/// The result of an operator on two values.
-pub(crate) fn operate(
-    alloc: Global,
-    operator: Operator,
-    left: Val,
-    right: &Val,
-) -> Result<Val, Stop>
-    ensures { Answers result (on_left (leaves.operator_of operator) (view right.now) (plain (view left))) }
-{
-    answer(operated(alloc, operator, left, right))
-}
 
 /// The answer of an operator replaces the left value. `+` changes a left value that is not shared in place.
 pub(crate) fn operate_in_place(

@@ -1,5 +1,5 @@
 // `path(f)`, where f leads to parts of its input.
-ghost use Rattle.std.specs.Prelude.{◌≡◌, [], ◌∷◌, IfOk, IfSome, map};
+ghost use Rattle.std.specs.Prelude.{◌≡◌, [], IfOk, map};
 ghost use Rattle.jv_data.specs.View.{view};
 ghost use Rattle.jq_ast.specs.Leaves.{key_of};
 ghost use Rattle.jq_ast.specs.Named.{named};
@@ -9,12 +9,11 @@ ghost use Rattle.jq_meaning.specs.Builtins as meaning;
 ghost use Rattle.jq_meaning.specs.Runs.{located, plain};
 ghost use Rattle.jq_state.specs.Items.{item_of};
 ghost use Rattle.jq_single.specs.private.Gathering.{GathersBuiltin, GathersOf};
-ghost use Rattle.jq_single.specs.private.Parts.{IsUntold, RunsBuiltin};
 
 use crate::contexts::Context;
 use crate::giving::ended;
 use crate::rests::Rest;
-use crate::stops::{Stop, untold};
+use crate::stops::Stop;
 use jq_ast::{Key, Tree};
 use jq_state::items::{Item, Path};
 use jv_data::{NoMemory, Val};
@@ -82,34 +81,6 @@ impl<'s> Context<'s> {
             }
             _ => Err(Stop::Unknown),
         }
-    }
-
-    /// `path(f)` with one path.
-    #[cycle(single)]
-    #[inline(never)]
-    pub(crate) fn get_path(&self, arguments: &'s [Tree], value: &Val) -> Result<Val, Stop>
-        ensures { RunsBuiltin self.now meaning.paths (trees_of (map named arguments.now)) (view value.now) result }
-    {
-        let mut paths = Vec::new(self.alloc);
-        let end = Rest::End(1);
-        match (&*self).gather_paths(&*arguments, value, &end, &mut paths) {
-            Ok(()) => match only_of(paths) {
-                Some(path) => Ok(path),
-                None => Err(Stop::Unknown),
-            },
-            Err(stop) => Err(untold(stop)),
-        }
-    }
-}
-
-// The value of a list of one value.
-fn only_of(values: Vec<Val>) -> Option<Val>
-    ensures { IfSome result (λ v. values.items ≡ v ∷ []) }
-{
-    let mut values = values;
-    match (values.pop(), values.pop()) {
-        (Some(only), None) => Some(only),
-        _ => None,
     }
 }
 

@@ -37,9 +37,6 @@ ChangesTo p t v w result = (inputs : Run Value) (level : ℕ) → Changed result
 abbrev pub body_in : Scope → (depth : ℕ) → Run Value → (level : ℕ) → Tree → Item → Run Item
 body_in own depth inputs level t x = below depth t (scope_env inputs own) level x
 
-abbrev pub RunsBelow : Context → Scope → Tree → Value → Result Val Stop → Type 0
-RunsBelow p own t v result = (inputs : Run Value) (level : ℕ) → Answers result (body_in own p.depth inputs level t (plain v))
-
 abbrev pub ChangesBelow : {A : Type 0} → Context → Scope → Tree → (before later : Value) → Result A Stop → Type 0
 ChangesBelow p own t v w result = (inputs : Run Value) (level : ℕ) → Changed result w (body_in own p.depth inputs level t (plain v))
 

@@ -1,4 +1,4 @@
-use Rattle.std.proofs.Common.{rules, to_z, of_z, w64, Ok, Err, [], ◌∷◌, List, ℕ, suc, codes, ◌≡◌, ◌∙◌, ◌-◌, arith, length, map, true, false, refl, sym, ap, subst}
+use Rattle.std.proofs.Common.{rules, to_z, of_z, w64, Ok, Err, [], ◌∷◌, List, ℕ, suc, ◌≡◌, ◌∙◌, ◌-◌, arith, length, map, true, false, refl, sym, ap, subst}
 use Rattle.std.proofs.lemmas.Int.{to_z-of_z}
 use Rattle.std.proofs.Math.Logic.{∥∥₁_elim}
 use Rattle.std.specs.Str.{chars}
@@ -17,12 +17,10 @@ use Rattle.jq_tree.specs.Tree as form
 use Rattle.jq_tree.specs.Tree.{Entry, Tree, bind_as, more_entries, object, reduce, text, trees_of, whole}
 use Rattle.jq_operations.specs.Language.{meaning_of}
 use Rattle.jq_meaning.specs.machine.Operations.{path_item}
-use Rattle.jq_meaning.specs.Builtins.{builtin_named, plain_native, range_of}
+use Rattle.jq_meaning.specs.Builtins.{builtin_named, range_of}
 use Rattle.jq_meaning.specs.Builtins as meaning
-use Rattle.jq_meaning.specs.Env.{bound, find_callee, find_in_prelude, find_value, no_callee, value_of}
+use Rattle.jq_meaning.specs.Env.{bound, find_callee, find_in_prelude, value_of}
 use Rattle.jq_meaning.specs.Steps.{each_part}
-use Rattle.jv_arith.specs.Arith.{add_of}
-use Rattle.jq_natives.specs.PathNatives.{getpath_native_of}
 use Rattle.jq_meaning.specs.Folds.{next_state, reduced}
 use Rattle.jq_meaning.specs.Meaning.{arguments_with, below, bindings_with, meaning, pieces_with}
 use Rattle.jq_meaning.specs.Continuations.{on_source, on_state, on_target, on_key, on_start, on_end, on_entry, on_entry_key, on_back, on_inserted, format_of, on_left, on_right, negated, truth, on_conjunct, on_disjunct, on_test, on_error}
@@ -38,10 +36,9 @@ use Rattle.jq_state.proofs.shared.Items.{absent, value_of_item}
 use Rattle.jq_single.specs.private.Making.{entries_in}
 use Rattle.jq_single.specs.private.Updates.{listed, part_run, path_run}
 use Rattle.jq_meaning.specs.laws.Updating.{turn_of, turns}
-use Rattle.jq_single.specs.private.FirstOutputs.{first_alone}
 use Rattle.jq_single.specs.private.Parts.{Answers, builtin_in, run}
 use Rattle.jq_single.specs.Single.{Changed, Ends}
-use Rattle.jq_single.proofs.Binding.{bind-known, ends-bind, ends-after, answers-bind, changed-bind, changed_holds, changed_fails, changed-stops, goes-changed, keeps-stops, leaves_same, stops, untold, and_goes, and_stops, or_goes, or_stops, truth_of, test_holds, test_fails, caught, with_variable, text-bind, text-stops}
+use Rattle.jq_single.proofs.Binding.{bind-known, ends-bind, ends-after, answers-bind, changed-bind, changed-stops, goes-changed, keeps-stops, leaves_same, stops, untold, and_goes, and_stops, or_goes, or_stops, truth_of, caught, with_variable, text-bind, text-stops}
 use Rattle.jq_single.specs.declared.rests.Rest.{Rest}
 use Rattle.jq_single.specs.declared.rests.Rest.TheVariants as rest
 use Rattle.jq_single.proofs.Gathered.{gathers-none, gathers-then, gathers-fail, gathers_all, gives_first, stops_first, stops-then, gathered_list, ends_gathered, bound_rest, picks_holds, picks_fails}
@@ -49,30 +46,25 @@ use Rattle.jq_single.proofs.Folded.{fold_value, turned, fold_ends, single_fold}
 use Rattle.jq_single.proofs.FirstOutputs.{answers-first, changed-first, first-then}
 use Rattle.jq_single.proofs.Sets.{changed-prop}
 use Rattle.jq_single.proofs.UpdateTurns.{getpath_keys, known_paths, listed_more, modify_tree, turn_lists, turn_raises, turn_sets, two_calls_deep}
-use Rattle.jq_single.proofs.Located.{path_given, path_of_builtin, paths-rest}
+use Rattle.jq_single.proofs.Located.{path_given, paths-rest}
 use Rattle.jq_single.proofs.Bodies.{body_runs, builtin_runs, closure_runs, function_runs, named-Identity, prelude_runs}
 use Rattle.jq_single.proofs.GivenArguments.{native_plain, two_chosen}
 use Rattle.jq_single.proofs.contexts.Context.+single.Goals as goal
 
 -- ---- forms
 
-pub get_form-returns-in-Text : goal.get_form-returns-in-Text
-get_form-returns-in-Text t c = λ inputs level.
+pub get_made-returns-in-Text : goal.get_made-returns-in-Text
+get_made-returns-in-Text t c = λ inputs level.
     let f = name_of c.in-Text.format in
     let form : named c.args.tree.now ≡ text f (named_pieces c.as_slice.result.now c.in-Text.last) =
     ap named c.in-Text.is ∙ named-Text c.in-Text.format c.in-Text.pieces c.in-Text.last ∙ ap (λ ps. text f (named_pieces ps c.in-Text.last)) (sym c.as_slice.ensures.value) in
     subst (λ (u : Tree). Answers c.text.result (run c.args.self.now inputs level u (plain (view c.args.value.now)))) (sym form) (c.text.ensures inputs level)
 
-pub get_form-returns-in-Object : goal.get_form-returns-in-Object
-get_form-returns-in-Object t c = λ inputs level.
+pub get_made-returns-in-Object : goal.get_made-returns-in-Object
+get_made-returns-in-Object t c = λ inputs level.
     let form : named c.args.tree.now ≡ object (named_entries c.as_slice-in-Object.result.now) =
     ap named c.in-Object.is ∙ named-Object c.in-Object.entries ∙ ap (λ es. object (named_entries es)) (sym c.as_slice-in-Object.ensures.value) in
     subst (λ (u : Tree). Answers c.object.result (run c.args.self.now inputs level u (plain (view c.args.value.now)))) (sym form) (c.object.ensures inputs level)
-
-pub get_form-returns-in-Call : goal.get_form-returns-in-Call
-get_form-returns-in-Call t c = λ inputs level.
-    subst (λ (u : Tree). Answers c.get_call.result (run c.args.self.now inputs level u (plain (view c.args.value.now))))
-    (sym (ap named c.in-Call.is ∙ named-Call c.in-Call.name c.in-Call.arguments)) (c.get_call.ensures inputs level)
 
 pub get_changed-returns-in-Ok : goal.get_changed-returns-in-Ok
 get_changed-returns-in-Ok t c = λ inputs level.
@@ -168,32 +160,6 @@ pipe-returns-in_err-between t c = λ inputs level.
     let go : Tree → Item → Run Item = run c.args.self.now inputs level in
     stops c.from_residual.result c.in_err-between.field-0.0 _ c.from_residual.ensures.1 (ends-bind c.in_err-between.field-0.0 (go (named c.args.first.now) v) (go (named c.args.second.now)) (c.in_err-between.ensures inputs level))
 
-pub binary-returns : goal.binary-returns
-unfolding on_right
-binary-returns t c = λ inputs level.
-    let v = plain (view c.args.value.now) in
-    let go : Tree → Item → Run Item = run c.args.self.now inputs level in
-    let op = operator_of c.args.operator in
-    answers-bind c.operate.result (go (named c.args.right.now) v) (plain (view c.in_ok-second.second)) (on_right op (go (named c.args.left.now) v)) (c.in_ok-second.ensures inputs level)
-    (answers-bind c.operate.result (go (named c.args.left.now) v) (plain (view c.in_ok-first.first)) (on_left op (view c.in_ok-second.second)) (c.in_ok-first.ensures inputs level) c.operate.ensures)
-
-pub binary-returns-in_err-second : goal.binary-returns-in_err-second
-binary-returns-in_err-second t c = λ inputs level.
-    let v = plain (view c.args.value.now) in
-    let go : Tree → Item → Run Item = run c.args.self.now inputs level in
-    stops c.from_residual.result c.in_err-second.field-0.0 _ c.from_residual.ensures.1 (ends-bind c.in_err-second.field-0.0 (go (named c.args.right.now) v) (on_right (operator_of c.args.operator) (go (named c.args.left.now) v)) (c.in_err-second.ensures inputs level))
-
-pub binary-returns-in_err-first : goal.binary-returns-in_err-first
-unfolding on_right
-binary-returns-in_err-first t c = λ inputs level.
-    let v = plain (view c.args.value.now) in
-    let go : Tree → Item → Run Item = run c.args.self.now inputs level in
-    let op = operator_of c.args.operator in
-    let s = c.in_err-first.field-0.0 in
-    stops c.from_residual-in_err-first.result s _ c.from_residual-in_err-first.ensures.1
-    (ends-after s (go (named c.args.right.now) v) (plain (view c.in_ok-second.second)) (on_right op (go (named c.args.left.now) v)) (c.in_ok-second.ensures inputs level)
-    (ends-bind s (go (named c.args.left.now) v) (on_left op (view c.in_ok-second.second)) (c.in_err-first.ensures inputs level)))
-
 pub negation-returns-in_err-found : goal.negation-returns-in_err-found
 negation-returns-in_err-found t c = λ inputs level.
     let v = plain (view c.args.value.now) in
@@ -256,26 +222,6 @@ or-returns-in_err-first t c = λ inputs level.
     let go : Tree → Item → Run Item = run c.args.self.now inputs level in
     stops c.from_residual.result c.in_err-first.field-0.0 _ c.from_residual.ensures.1 (ends-bind c.in_err-first.field-0.0 (go (named c.args.left.now) v) (on_disjunct (go (named c.args.right.now)) v) (c.in_err-first.ensures inputs level))
 
-pub choice-returns-then-truth : goal.choice-returns-then-truth
-choice-returns-then-truth t c = λ inputs level.
-    let v = plain (view c.args.value.now) in
-    let go : Tree → Item → Run Item = run c.args.self.now inputs level in
-    test_holds c.get-then-truth.result (go (named c.args.condition.now) v) (view c.in_ok-test.test) (go (named c.args.holds.now)) (go (named c.args.fails.now)) v
-    (c.in_ok-test.ensures inputs level) (sym c.truth.ensures ∙ c.if-truth.true) (c.get-then-truth.ensures inputs level)
-
-pub choice-returns : goal.choice-returns
-choice-returns t c = λ inputs level.
-    let v = plain (view c.args.value.now) in
-    let go : Tree → Item → Run Item = run c.args.self.now inputs level in
-    test_fails c.get-else-truth.result (go (named c.args.condition.now) v) (view c.in_ok-test.test) (go (named c.args.holds.now)) (go (named c.args.fails.now)) v
-    (c.in_ok-test.ensures inputs level) (sym c.truth.ensures ∙ c.if-truth.false) (c.get-else-truth.ensures inputs level)
-
-pub choice-returns-in_err-test : goal.choice-returns-in_err-test
-choice-returns-in_err-test t c = λ inputs level.
-    let v = plain (view c.args.value.now) in
-    let go : Tree → Item → Run Item = run c.args.self.now inputs level in
-    stops c.from_residual.result c.in_err-test.field-0.0 _ c.from_residual.ensures.1 (ends-bind c.in_err-test.field-0.0 (go (named c.args.condition.now) v) (on_test (go (named c.args.holds.now)) (go (named c.args.fails.now)) v) (c.in_err-test.ensures inputs level))
-
 -- ---- `//` and `try`
 
 pub alternative-returns-in-Ok-Some : goal.alternative-returns-in-Ok-Some
@@ -335,44 +281,6 @@ change_form-returns-in-Update-clause-runs t c = λ inputs level.
 pub change_kept-returns-in-Err-clause-keeps : goal.change_kept-returns-in-Err-clause-keeps
 change_kept-returns-in-Err-clause-keeps t c = leaves_same c.in-Err.stop (view c.args.value.now)
 
-pub get_call-returns-in-Function : goal.get_call-returns-in-Function
-get_call-returns-in-Function t c = λ inputs level.
-    let p = c.args.self.now in
-    let n = name_of c.args.name.now in
-    let ts = c.args.arguments.now.items in
-    let e = scope_env inputs p.scope.now in
-    let count : c.len-count.result ≡ length ts = c.len-count.ensures ∙ c.args.arguments.now.ok.0 in
-    subst (Answers c.get_body.result)
-    (ap (λ own. below p.depth (named c.in-Function.function.now.body) own level (plain (view c.args.value.now))) (c.scope_of_call-scope.ensures inputs)
-    ∙ sym (function_runs p inputs level n ts c.in-Function.function.now c.in-Function.own (plain (view c.args.value.now)) (c.in-Function.ensures inputs ∙ ap (λ k. find_callee n k e) count)))
-    (c.get_body.ensures inputs level)
-
-pub get_call-returns-in-Closure : goal.get_call-returns-in-Closure
-get_call-returns-in-Closure t c = λ inputs level.
-    let p = c.args.self.now in
-    let n = name_of c.args.name.now in
-    let ts = c.args.arguments.now.items in
-    let e = scope_env inputs p.scope.now in
-    let count : c.len-count.result ≡ length ts = c.len-count.ensures ∙ c.args.arguments.now.ok.0 in
-    subst (Answers c.get_body-in-Closure.result)
-    (sym (closure_runs p inputs level n ts (named c.in-Closure.body.now) c.in-Closure.own (plain (view c.args.value.now)) (c.in-Closure.ensures inputs ∙ ap (λ k. find_callee n k e) count)))
-    (c.get_body-in-Closure.ensures inputs level)
-
-pub get_call-returns-in-Nothing : goal.get_call-returns-in-Nothing
-get_call-returns-in-Nothing t c = λ inputs level.
-    let p = c.args.self.now in
-    let n = name_of c.args.name.now in
-    let ts = c.args.arguments.now.items in
-    let e = scope_env inputs p.scope.now in
-    let count : c.len-count.result ≡ length ts = c.len-count.ensures ∙ c.args.arguments.now.ok.0 in
-    let b = meaning_of c.builtin_named-builtin.result in
-    let means : b ≡ builtin_named n (length ts) =
-    c.builtin_named-builtin.ensures ∙ ap (λ bs. builtin_named (chars bs) c.len-count.result) c.as_str.ensures.value ∙ ap (builtin_named n) count in
-    subst (Answers c.get_builtin.result)
-    (ap (λ us. builtin_in p inputs level b (trees_of (map named us)) (plain (view c.args.value.now))) c.as_slice.ensures.value
-    ∙ sym (builtin_runs p inputs level n ts b (plain (view c.args.value.now)) (c.in-Nothing.ensures inputs ∙ ap (λ k. find_callee n k e) count) means))
-    (c.get_builtin.ensures inputs level)
-
 pub change_call-returns-in-Function-clause-runs : goal.change_call-returns-in-Function-clause-runs
 change_call-returns-in-Function-clause-runs t c = λ inputs level.
     let p = c.args.self.now in
@@ -423,21 +331,13 @@ change_prelude_call-returns-in-Function-clause-runs t c = λ inputs level.
     ∙ sym (prelude_runs p inputs level n ts c.in-Function.function.now c.in-Function.own (plain (view c.args.value.now)) (c.in-Function.ensures inputs ∙ ap (λ k. find_in_prelude n k e) count)))
     (c.change_body.ensures.runs inputs level)
 
-pub get_body-returns : goal.get_body-returns
-get_body-returns t c = λ inputs level.
-    let depth = c.args.self.now.depth in
-    subst (Answers c.get.result)
-    (body_runs (scope_env inputs c.args.own.now) depth (depth - 1) level (named c.args.body.now) (plain (view c.args.value.now)) (omega arith))
-    (c.get.ensures inputs level)
+pub get_builtin-returns-in-Ok : goal.get_builtin-returns-in-Ok
+get_builtin-returns-in-Ok t c = λ inputs level.
+    ap (λ (v : Value). builtin_in c.args.self.now inputs level (meaning_of c.args.builtin) (trees_of (map named c.args.arguments.now)) (plain v)) (sym c.in_ok-output.ensures) ∙ c.in-Ok.ensures.runs inputs level
 
-pub get_builtin-returns-in-Native : goal.get_builtin-returns-in-Native
-get_builtin-returns-in-Native t c = λ inputs level.
-    let p = c.args.self.now in
-    let us = trees_of (map named c.args.arguments.now) in
-    let v = view c.args.value.now in
-    subst (Answers c.get_native.result)
-    (sym (ap (λ b. builtin_in p inputs level (meaning_of b) us (plain v)) c.in-Native.is ∙ native_plain c.in-Native.native (arguments_with (below p.depth) us (scope_env inputs p.scope.now) level (plain v)) v))
-    (c.get_native.ensures inputs level)
+pub get_builtin-returns-in-Err : goal.get_builtin-returns-in-Err
+get_builtin-returns-in-Err t c = λ inputs level.
+    subst (λ (v : Value). Ends c.in-Err.stop (builtin_in c.args.self.now inputs level (meaning_of c.args.builtin) (trees_of (map named c.args.arguments.now)) (plain v))) c.in_ok-output.ensures (c.in-Err.ensures.runs inputs level)
 
 pub change_body-returns-clause-runs : goal.change_body-returns-clause-runs
 change_body-returns-clause-runs t c = λ inputs level.
@@ -454,14 +354,6 @@ change_builtin-returns-in-Native-clause-runs t c = λ inputs level.
     subst (Changed c.change_native.result (view c.change_native.new.value))
     (sym (ap (λ b. builtin_in p inputs level (meaning_of b) us (plain v)) c.in-Native.is ∙ native_plain c.in-Native.native (arguments_with (below p.depth) us (scope_env inputs p.scope.now) level (plain v)) v))
     (c.change_native.ensures.runs inputs level)
-
-pub get_path-returns-in-Some : goal.get_path-returns-in-Some
-get_path-returns-in-Some t c = λ inputs level.
-    let r : Run Item = builtin_in c.args.self.now inputs level meaning.paths (trees_of (map named c.args.arguments.now)) (plain (view c.args.value.now)) in
-    let all : gathered r ≡ one (plain (array (items_of (map view c.gather_paths.new.into.items)))) =
-    gathered_list inputs level 1 (tt {0}) c.new-paths.result.items c.gather_paths.new.into.items r c.new-paths.ensures.items (c.in-Ok.ensures inputs level) in
-    path_of_builtin c.args.self.now inputs level (trees_of (map named c.args.arguments.now)) (view c.args.value.now) (view c.in-Some.path)
-    (all ∙ ap (λ (xs : List Val). one (plain (array (items_of (map view xs))))) c.in-Some.ensures)
 
 pub change_binary-returns-in-Ok-clause-runs : goal.change_binary-returns-in-Ok-clause-runs
 unfolding on_right
@@ -498,15 +390,17 @@ pub change_choice-returns-then-truth-clause-runs : goal.change_choice-returns-th
 change_choice-returns-then-truth-clause-runs t c = λ inputs level.
     let v = plain (view c.args.value.now) in
     let go : Tree → Item → Run Item = run c.args.self.now inputs level in
-    changed_holds c.change.result (view c.change.new.value) (go (named c.args.condition.now) v) (view c.in_ok-test.test) (go (named c.args.holds.now)) (go (named c.args.fails.now)) v
-    (c.in_ok-test.ensures inputs level) (sym c.truth.ensures ∙ c.if-truth.true) (c.change.ensures.runs inputs level)
+    subst (Changed c.change.result (view c.change.new.value))
+    (sym (picks_holds (go (named c.args.condition.now) v) (view c.in_ok-test.test) (go (named c.args.holds.now)) (go (named c.args.fails.now)) v (c.in_ok-test.ensures inputs level) (sym c.truth.ensures ∙ c.if-truth.true)))
+    (c.change.ensures.runs inputs level)
 
 pub change_choice-returns-clause-runs : goal.change_choice-returns-clause-runs
 change_choice-returns-clause-runs t c = λ inputs level.
     let v = plain (view c.args.value.now) in
     let go : Tree → Item → Run Item = run c.args.self.now inputs level in
-    changed_fails c.change-else-truth.result (view c.change-else-truth.new.value) (go (named c.args.condition.now) v) (view c.in_ok-test.test) (go (named c.args.holds.now)) (go (named c.args.fails.now)) v
-    (c.in_ok-test.ensures inputs level) (sym c.truth.ensures ∙ c.if-truth.false) (c.change-else-truth.ensures.runs inputs level)
+    subst (Changed c.change-else-truth.result (view c.change-else-truth.new.value))
+    (sym (picks_fails (go (named c.args.condition.now) v) (view c.in_ok-test.test) (go (named c.args.holds.now)) (go (named c.args.fails.now)) v (c.in_ok-test.ensures inputs level) (sym c.truth.ensures ∙ c.if-truth.false)))
+    (c.change-else-truth.ensures.runs inputs level)
 
 pub change_choice-returns-in_err-test-clause-runs : goal.change_choice-returns-in_err-test-clause-runs
 change_choice-returns-in_err-test-clause-runs t c = λ inputs level.
