@@ -2,7 +2,7 @@
 ghost use Rattle.std.specs.Prelude.{◌≡◌, map};
 ghost use Rattle.jv_data.specs.Value.{Value};
 ghost use Rattle.jv_data.specs.View.{view};
-ghost use Rattle.jq_ast.specs.Named.{name_of, named};
+ghost use Rattle.jq_ast.specs.Named.{named};
 ghost use Rattle.jq_tree.specs.Tree.{trees_of};
 ghost use Rattle.jq_tree.specs.Tree as form;
 ghost use Rattle.jq_operations.specs.Language.{meaning_of};
@@ -10,16 +10,16 @@ ghost use Rattle.jq_meaning.specs.Builtins.{plain_native};
 ghost use Rattle.jq_meaning.specs.Builtins as meaning;
 ghost use Rattle.jq_meaning.specs.Runs.{Run};
 ghost use Rattle.jq_single.specs.Single.{Changed, Keeps};
-ghost use Rattle.jq_single.specs.private.Parts.{ChangesBelow, ChangesByBuiltin, ChangesByNative, ChangesTo, RunsBuiltin};
+ghost use Rattle.jq_single.specs.private.Parts.{Calls, ChangesBelow, ChangesByBuiltin, ChangesByNative, ChangesTo, RunsBuiltin};
 ghost use Rattle.jq_single.specs.private.Scopes.{body_env, scope_env};
 
 use crate::contexts::Context;
-use crate::finding::{Found, callee_of, prelude_of};
+use crate::finding::Found;
 use crate::scopes::Scope;
 use crate::stops::Stop;
-use jq_ast::{Function, Name, Tree};
+use jq_ast::{Function, Tree};
 use jq_natives::{Native, call_in_place};
-use jq_operations::{Builtin, builtin_named};
+use jq_operations::Builtin;
 use jv_data::{Fail, Val};
 use std::alloc::Global;
 use std::mem::replace;
@@ -46,62 +46,32 @@ impl<'s> Context<'s> {
         }
     }
 
-    /// `a(f; g)`: a call of a function, of a filter that was passed, or of a name of the language.
+    /// A call, by what it finds.
     #[cycle(single)]
     #[inline(never)]
     pub(crate) fn change_call(
         &self,
-        name: &Name,
+        found: Found<'s>,
         arguments: &'s Vec<Tree>,
         value: &mut Val,
     ) -> Result<(), Stop>
-        ensures runs { ChangesTo self.now (form.call (name_of name.now) (trees_of (map named arguments.now.items))) (view value.old) (view value.new) result }
+        ensures runs { (t : form.Tree) → Calls self.now t arguments.now.items found.entry → ChangesTo self.now t (view value.old) (view value.new) result }
         ensures keeps { Keeps result (view value.old) (view value.new) }
     {
-        let count = arguments.len();
-        match callee_of(self.scope, name, count) {
+        match found {
             Found::Function(function, own) => {
                 let scope = scope_of_call(&own, &*function, &*arguments, &*self.scope);
                 (&*self).change_body(&function.body, &scope, value)
             }
             Found::Closure(body, own) => self.change_body(body, &own, value),
-            Found::Nothing => {
-                let builtin = builtin_named(name.text.as_str(), count);
-                self.change_builtin(builtin, arguments.as_slice(), value)
-            }
+            Found::Builtin(builtin) => self.change_builtin(builtin, arguments.as_slice(), value),
+            Found::Nothing => Err(Stop::Unknown),
         }
     }
 
-    /// A call of the prelude's own function.
+    // Runs a body in its own scope, with a call depth that is smaller by one.
     #[cycle(single)]
-    #[inline(never)]
-    pub(crate) fn change_prelude_call(
-        &self,
-        name: &Name,
-        arguments: &'s Vec<Tree>,
-        value: &mut Val,
-    ) -> Result<(), Stop>
-        ensures runs { ChangesTo self.now (form.prelude_call (name_of name.now) (trees_of (map named arguments.now.items))) (view value.old) (view value.new) result }
-        ensures keeps { Keeps result (view value.old) (view value.new) }
-    {
-        let count = arguments.len();
-        match prelude_of(self.scope, name, count) {
-            Found::Function(function, own) => {
-                let scope = scope_of_call(&own, &*function, &*arguments, &*self.scope);
-                (&*self).change_body(&function.body, &scope, value)
-            }
-            _ => Err(Stop::Unknown),
-        }
-    }
-
-    /// Runs a body in its own scope, with a call depth that is smaller by one.
-    #[cycle(single)]
-    pub(crate) fn change_body(
-        &self,
-        body: &'s Tree,
-        own: &Scope<'s>,
-        value: &mut Val,
-    ) -> Result<(), Stop>
+    fn change_body(&self, body: &'s Tree, own: &Scope<'s>, value: &mut Val) -> Result<(), Stop>
         ensures runs { ChangesBelow self.now own.now (named body.now) (view value.old) (view value.new) result }
         ensures keeps { Keeps result (view value.old) (view value.new) }
     {
@@ -116,10 +86,10 @@ impl<'s> Context<'s> {
         inside.change(&*body, value)
     }
 
-    /// A name of the language whose answer replaces the value. `setpath` and `delpaths` would copy a value that is kept, so they
-    /// are not run at once on one.
+    // A name of the language whose answer replaces the value. `setpath` and `delpaths` would copy a value that is kept, so they
+    // are not run at once on one.
     #[cycle(single)]
-    pub(crate) fn change_builtin(
+    fn change_builtin(
         &self,
         builtin: Builtin,
         arguments: &'s [Tree],

@@ -85,9 +85,11 @@ impl<'s> Context<'s> {
                 self.change_binding(source, pattern, body, value)
             }
             Tree::Define(function, rest) => self.change_define(function, rest, value),
-            Tree::Call(name, arguments) => self.change_call(name, arguments, value),
+            Tree::Call(name, arguments) => {
+                self.change_call(self.called(name, arguments), arguments, value)
+            }
             Tree::PreludeCall(name, arguments) => {
-                self.change_prelude_call(name, arguments, value)
+                self.change_call(self.called_in_prelude(name, arguments), arguments, value)
             }
             Tree::Update(modify, parts) => self.change_update(modify, &**parts, value),
             Tree::Reduce(source, pattern, start, update) => {

@@ -1,36 +1,67 @@
 // What a name is bound to in a scope.
-ghost use Rattle.std.specs.Prelude.{◌≡◌, IfOk, IsTrue};
+ghost use Rattle.std.specs.Prelude.{◌≡◌, IfOk, IsTrue, map};
 ghost use Rattle.jv_data.specs.Value.{Value};
 ghost use Rattle.jv_data.specs.View.{view};
-ghost use Rattle.jq_ast.specs.Named.{name_of};
+ghost use Rattle.jq_ast.specs.Named.{name_of, named};
+ghost use Rattle.jq_tree.specs.Tree.{trees_of};
+ghost use Rattle.jq_tree.specs.Tree as form;
 ghost use Rattle.jq_meaning.specs.Env as meaning;
 ghost use Rattle.jq_meaning.specs.Runs.{Run};
 ghost use Rattle.jq_state.specs.Environments.{count_of, envs_of};
 ghost use Rattle.jq_single.specs.private.Scopes.{scope_env};
 ghost use Rattle.jq_single.specs.private.Finds.{FindsBound, FindsInPrelude, found_in};
+ghost use Rattle.jq_single.specs.private.Parts.{Calls};
 ghost use Rattle.jq_state.specs.Nodes.{env_at};
 ghost use Rattle.jq_meaning.specs.updates.Known.{HasModify};
 ghost use Rattle.jq_operations.specs.Callees.{CalleeFits, callee_in};
 
+use crate::contexts::Context;
 use crate::scopes::{Outside, Scope};
 use jq_ast::{Function, Name, Tree};
 use jq_meaning::updates::the_preludes_update_stays;
-use jq_operations::{Callee, find_callee, find_in_prelude, find_value};
+use jq_operations::{Builtin, Callee, builtin_named, find_callee, find_in_prelude, find_value};
 use jq_state::environments::Nodes;
 use jq_state::names::{is_function, is_text};
 use jv_data::{NoMemory, Val};
 
-/// What a call finds: a function, with the scope that begins with its own binding, or a
-/// filter that was passed, with its own scope.
+/// What a call finds: a function, with the scope that begins with its own binding, a
+/// filter that was passed, with its own scope, or a name of the language.
 #[derive(Clone, Copy)]
 pub(crate) enum Found<'s> {
     Function(&'s Function<Tree>, Scope<'s>),
     Closure(&'s Tree, Scope<'s>),
+    Builtin(Builtin),
     Nothing,
 }
 
-/// The innermost function or parameter with this name and this number of arguments.
-pub(crate) fn callee_of<'s>(scope: &Scope<'s>, name: &Name, count: usize) -> Found<'s>
+impl<'s> Context<'s> {
+    /// What `a(f; g)` runs.
+    pub(crate) fn called(&self, name: &Name, arguments: &Vec<Tree>) -> Found<'s>
+        ensures { Calls self.now (form.call (name_of name.now) (trees_of (map named arguments.now.items))) arguments.now.items result }
+    {
+        let count = arguments.len();
+        match callee_of(self.scope, name, count) {
+            Found::Function(function, own) => Found::Function(function, own),
+            Found::Closure(body, own) => Found::Closure(body, own),
+            Found::Builtin(_) => Found::Nothing,
+            Found::Nothing => Found::Builtin(builtin_named(name.text.as_str(), count)),
+        }
+    }
+
+    /// What a call of the prelude's own function runs.
+    pub(crate) fn called_in_prelude(&self, name: &Name, arguments: &Vec<Tree>) -> Found<'s>
+        ensures { Calls self.now (form.prelude_call (name_of name.now) (trees_of (map named arguments.now.items))) arguments.now.items result }
+    {
+        let count = arguments.len();
+        match prelude_of(self.scope, name, count) {
+            Found::Function(function, own) => Found::Function(function, own),
+            _ => Found::Nothing,
+        }
+    }
+}
+
+// The innermost function or parameter with this name and this number of arguments.
+fn callee_of<'s>(scope: &Scope<'s>, name: &Name, count: usize) -> Found<'s>
     ensures { (inputs : Run Value) → found_in inputs result ≡ meaning.find_callee (name_of name.now) count (scope_env inputs scope.now) }
 {
     match scope {
@@ -83,9 +114,9 @@ pub(crate) fn argument_of<'s>(
     }
 }
 
-/// The prelude's own function with this name and this number of arguments, whatever is defined later. If a scope outside of the run's
-/// environment would have to define it, nothing is found.
-pub(crate) fn prelude_of<'s>(scope: &Scope<'s>, name: &Name, count: usize) -> Found<'s>
+// The prelude's own function with this name and this number of arguments, whatever is defined later. If a scope outside of the run's
+// environment would have to define it, nothing is found.
+fn prelude_of<'s>(scope: &Scope<'s>, name: &Name, count: usize) -> Found<'s>
     ensures { FindsInPrelude (name_of name.now) count scope.now result }
 {
     match scope {

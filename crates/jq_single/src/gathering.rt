@@ -1,23 +1,24 @@
 // The outputs of a filter, each passed on to the rest of the filter.
 ghost use Rattle.std.specs.Prelude.{map};
-ghost use Rattle.jq_ast.specs.Named.{name_of, named, named_as_pattern};
+ghost use Rattle.jq_ast.specs.Named.{named, named_as_pattern};
 ghost use Rattle.jq_tree.specs.Tree.{trees_of};
 ghost use Rattle.jq_tree.specs.Tree as form;
 ghost use Rattle.jq_operations.specs.Language.{meaning_of};
 ghost use Rattle.jq_state.specs.Items.{item_of};
 ghost use Rattle.jq_operations.specs.Entering.{defined};
 ghost use Rattle.jq_single.specs.private.Gathering.{GathersBelow, GathersBuiltin, GathersOf};
+ghost use Rattle.jq_single.specs.private.Parts.{Calls};
 
 use crate::calling::scope_of_call;
 use crate::contexts::Context;
-use crate::finding::{Found, callee_of, prelude_of};
+use crate::finding::Found;
 use crate::giving::ended;
 use crate::rests::Rest;
 use crate::scopes::Scope;
 use crate::stops::Stop;
-use jq_ast::{Function, Name, Pattern, Tree};
+use jq_ast::{Function, Pattern, Tree};
 use jq_natives::truth;
-use jq_operations::{Builtin, builtin_named};
+use jq_operations::Builtin;
 use jq_state::items::Item;
 use jv_data::Val;
 
@@ -62,9 +63,12 @@ impl<'s> Context<'s> {
             Tree::Define(function, later) => {
                 inside.gather_define(function, later, item, rest, into)
             }
-            Tree::Call(name, arguments) => inside.gather_call(name, arguments, item, rest, into),
+            Tree::Call(name, arguments) => {
+                inside.gather_call(inside.called(name, arguments), arguments, item, rest, into)
+            }
             Tree::PreludeCall(name, arguments) => {
-                inside.gather_prelude_call(name, arguments, item, rest, into)
+                let found = inside.called_in_prelude(name, arguments);
+                inside.gather_call(found, arguments, item, rest, into)
             }
             _ => inside.gather_one(tree, item, rest, into),
         }
@@ -218,53 +222,29 @@ impl<'s> Context<'s> {
         inside.gather(&*later, item, &*rest, into)
     }
 
-    // `a(f; g)`: a call of a function, of a filter that was passed, or of a name of the language.
+    // A call, by what it finds.
     #[cycle(single)]
     #[inline(never)]
     fn gather_call(
         &self,
-        name: &Name,
+        found: Found<'s>,
         arguments: &'s Vec<Tree>,
         item: &Item,
         rest: &Rest<'s>,
         into: &mut Vec<Val>,
     ) -> Result<(), Stop>
-        ensures { GathersOf self.now (form.call (name_of name.now) (trees_of (map named arguments.now.items))) (item_of item.now) rest.now result into.old.items into.new.items }
+        ensures { (t : form.Tree) → Calls self.now t arguments.now.items found.entry → GathersOf self.now t (item_of item.now) rest.now result into.old.items into.new.items }
     {
-        let count = arguments.len();
-        match callee_of(self.scope, name, count) {
+        match found {
             Found::Function(function, own) => {
                 let scope = scope_of_call(&own, &*function, &*arguments, &*self.scope);
                 (&*self).gather_body(&function.body, &scope, item, &*rest, into)
             }
             Found::Closure(body, own) => self.gather_body(body, &own, item, rest, into),
-            Found::Nothing => {
-                let builtin = builtin_named(name.text.as_str(), count);
+            Found::Builtin(builtin) => {
                 self.gather_builtin(builtin, arguments.as_slice(), item, rest, into)
             }
-        }
-    }
-
-    // A call of the prelude's own function.
-    #[cycle(single)]
-    #[inline(never)]
-    fn gather_prelude_call(
-        &self,
-        name: &Name,
-        arguments: &'s Vec<Tree>,
-        item: &Item,
-        rest: &Rest<'s>,
-        into: &mut Vec<Val>,
-    ) -> Result<(), Stop>
-        ensures { GathersOf self.now (form.prelude_call (name_of name.now) (trees_of (map named arguments.now.items))) (item_of item.now) rest.now result into.old.items into.new.items }
-    {
-        let count = arguments.len();
-        match prelude_of(self.scope, name, count) {
-            Found::Function(function, own) => {
-                let scope = scope_of_call(&own, &*function, &*arguments, &*self.scope);
-                (&*self).gather_body(&function.body, &scope, item, &*rest, into)
-            }
-            _ => Err(Stop::Unknown),
+            Found::Nothing => Err(Stop::Unknown),
         }
     }
 

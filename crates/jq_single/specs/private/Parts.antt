@@ -1,16 +1,21 @@
 -- The outputs of the parts of a filter that has at most one output.
-use Rattle.std.specs.Prelude.{◌≡◌, ℕ, Result, Ok, Err}
+use Rattle.std.specs.Prelude.{◌≡◌, ℕ, List, map, Result, Ok, Err}
 use Rattle.jq_natives.specs.declared.native.Native.{Native}
 use Rattle.jv_data.specs.Value.{Value}
 use Rattle.jv_data.specs.View.{view}
 use Rattle.jv_data.specs.declared.values.Val.{Val}
-use Rattle.jq_tree.specs.Tree.{Tree, Trees}
+use Rattle.jq_ast.specs.Named.{named}
+use Rattle.jq_ast.specs.declared.tree.Tree as ast
+use Rattle.jq_tree.specs.Tree.{Tree, Trees, trees_of}
 use Rattle.jq_meaning.specs.Builtins.{Builtin, builtin_run, each_choice, plain_native}
 use Rattle.jq_meaning.specs.Env.{find_inputs}
 use Rattle.jq_meaning.specs.Meaning.{arguments_with, below, meaning}
 use Rattle.jq_meaning.specs.Runs.{Item, plain, Run, one, bind}
+use Rattle.jq_operations.specs.Language.{meaning_of}
 use Rattle.jq_single.specs.Single.{Changed, Ends}
-use Rattle.jq_single.specs.private.Scopes.{scope_env}
+use Rattle.jq_single.specs.private.Scopes.{body_env, scope_env}
+use Rattle.jq_single.specs.declared.finding.Found.{Found}
+use Rattle.jq_single.specs.declared.finding.Found.TheVariants as found
 use Rattle.jq_single.specs.declared.scopes.Scope.{Scope}
 use Rattle.jq_single.specs.declared.contexts.Context.{Context}
 use Rattle.jq_single.specs.declared.stops.Stop.{Stop}
@@ -70,3 +75,11 @@ ChangesByBuiltin p b ts v w result = (inputs : Run Value) (level : ℕ) → Chan
 
 abbrev pub ChangesByNative : {A : Type 0} → Context → Native → Trees → (before later : Value) → Result A Stop → Type 0
 ChangesByNative p f ts v w result = (inputs : Run Value) (level : ℕ) → Changed result w (native_in p inputs level f ts v)
+
+-- What a call finds says what its tree runs.
+abbrev pub Calls : Context → Tree → List ast.Tree → Found → Type 0
+Calls p t ts (found.Function f own) =
+    (inputs : Run Value) (level : ℕ) (x : Item) → run p inputs level t x ≡ below p.depth (named f.now.body) (body_env f.now ts (scope_env inputs p.scope.now) (scope_env inputs own)) level x
+Calls p t ts (found.Closure body own) = (inputs : Run Value) (level : ℕ) (x : Item) → run p inputs level t x ≡ body_in own p.depth inputs level (named body.now) x
+Calls p t ts (found.Builtin b) = (inputs : Run Value) (level : ℕ) (x : Item) → run p inputs level t x ≡ builtin_in p inputs level (meaning_of b) (trees_of (map named ts)) x
+Calls p t ts found.Nothing = Unit {0}

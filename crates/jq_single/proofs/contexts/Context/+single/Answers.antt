@@ -17,9 +17,9 @@ use Rattle.jq_tree.specs.Tree as form
 use Rattle.jq_tree.specs.Tree.{Entry, Tree, bind_as, more_entries, object, reduce, text, trees_of, whole}
 use Rattle.jq_operations.specs.Language.{meaning_of}
 use Rattle.jq_meaning.specs.machine.Operations.{path_item}
-use Rattle.jq_meaning.specs.Builtins.{builtin_named, range_of}
+use Rattle.jq_meaning.specs.Builtins.{range_of}
 use Rattle.jq_meaning.specs.Builtins as meaning
-use Rattle.jq_meaning.specs.Env.{bound, find_callee, find_in_prelude, value_of}
+use Rattle.jq_meaning.specs.Env.{bound, value_of}
 use Rattle.jq_meaning.specs.Steps.{each_part}
 use Rattle.jq_meaning.specs.Folds.{next_state, reduced}
 use Rattle.jq_meaning.specs.Meaning.{arguments_with, below, bindings_with, meaning, pieces_with}
@@ -30,13 +30,13 @@ use Rattle.jq_operations.specs.Outputs.{Inserts, outputs_of}
 use Rattle.jq_operations.specs.Pieces.{named_pieces}
 use Rattle.jq_state.specs.Steps.{named_entries}
 use Rattle.jq_meaning.proofs.shared.machine.RunLaws.{bind-bind, bind-then_run}
-use Rattle.jq_single.specs.private.Gathering.{Gathers, folded, given_of, made, numbers_from, rest_run, state_in, turn}
+use Rattle.jq_single.specs.private.Gathering.{Gathers, GathersOf, folded, given_of, made, numbers_from, rest_run, state_in, turn}
 use Rattle.jq_state.specs.Items.{item_of}
 use Rattle.jq_state.proofs.shared.Items.{absent, value_of_item}
 use Rattle.jq_single.specs.private.Making.{entries_in}
 use Rattle.jq_single.specs.private.Updates.{listed, part_run, path_run}
 use Rattle.jq_meaning.specs.laws.Updating.{turn_of, turns}
-use Rattle.jq_single.specs.private.Parts.{Answers, builtin_in, run}
+use Rattle.jq_single.specs.private.Parts.{Answers, Calls, ChangesTo, builtin_in, run}
 use Rattle.jq_single.specs.Single.{Changed, Ends}
 use Rattle.jq_single.proofs.Binding.{bind-known, ends-bind, ends-after, answers-bind, changed-bind, changed-stops, goes-changed, keeps-stops, leaves_same, stops, untold, and_goes, and_stops, or_goes, or_stops, truth_of, caught, with_variable, text-bind, text-stops}
 use Rattle.jq_single.specs.declared.rests.Rest.{Rest}
@@ -47,7 +47,7 @@ use Rattle.jq_single.proofs.FirstOutputs.{answers-first, changed-first, first-th
 use Rattle.jq_single.proofs.Sets.{changed-prop}
 use Rattle.jq_single.proofs.UpdateTurns.{getpath_keys, known_paths, listed_more, modify_tree, turn_lists, turn_raises, turn_sets, two_calls_deep}
 use Rattle.jq_single.proofs.Located.{path_given, paths-rest}
-use Rattle.jq_single.proofs.Bodies.{body_runs, builtin_runs, closure_runs, function_runs, named-Identity, prelude_runs}
+use Rattle.jq_single.proofs.Bodies.{body_runs, named-Identity}
 use Rattle.jq_single.proofs.GivenArguments.{native_plain, two_chosen}
 use Rattle.jq_single.proofs.contexts.Context.+single.Goals as goal
 
@@ -263,14 +263,16 @@ try_catch-returns-in-Err-Nothing t c = λ inputs level.
 -- ---- outputs that replace the input
 
 pub change_form-returns-in-Call-clause-runs : goal.change_form-returns-in-Call-clause-runs
-change_form-returns-in-Call-clause-runs t c = λ inputs level.
-    subst (λ (u : Tree). Changed c.change_call.result (view c.change_call.new.value) (run c.args.self.now inputs level u (plain (view c.args.value.now))))
-    (sym (ap named c.in-Call.is ∙ named-Call c.in-Call.name c.in-Call.arguments)) (c.change_call.ensures.runs inputs level)
+change_form-returns-in-Call-clause-runs t c =
+    subst (λ (u : Tree). ChangesTo c.args.self.now u (view c.args.value.now) (view c.change_call.new.value) c.change_call.result)
+    (sym (ap named c.in-Call.is ∙ named-Call c.in-Call.name c.in-Call.arguments))
+    (c.change_call.ensures.runs (form.call (name_of c.in-Call.name) (trees_of (map named c.in-Call.arguments.items))) c.called.ensures)
 
 pub change_form-returns-in-PreludeCall-clause-runs : goal.change_form-returns-in-PreludeCall-clause-runs
-change_form-returns-in-PreludeCall-clause-runs t c = λ inputs level.
-    subst (λ (u : Tree). Changed c.change_prelude_call.result (view c.change_prelude_call.new.value) (run c.args.self.now inputs level u (plain (view c.args.value.now))))
-    (sym (ap named c.in-PreludeCall.is ∙ named-PreludeCall c.in-PreludeCall.name c.in-PreludeCall.arguments)) (c.change_prelude_call.ensures.runs inputs level)
+change_form-returns-in-PreludeCall-clause-runs t c =
+    subst (λ (u : Tree). ChangesTo c.args.self.now u (view c.args.value.now) (view c.change_call-in-PreludeCall.new.value) c.change_call-in-PreludeCall.result)
+    (sym (ap named c.in-PreludeCall.is ∙ named-PreludeCall c.in-PreludeCall.name c.in-PreludeCall.arguments))
+    (c.change_call-in-PreludeCall.ensures.runs (form.prelude_call (name_of c.in-PreludeCall.name) (trees_of (map named c.in-PreludeCall.arguments.items))) c.called_in_prelude.ensures)
 
 pub change_form-returns-in-Update-clause-runs : goal.change_form-returns-in-Update-clause-runs
 change_form-returns-in-Update-clause-runs t c = λ inputs level.
@@ -282,54 +284,28 @@ pub change_kept-returns-in-Err-clause-keeps : goal.change_kept-returns-in-Err-cl
 change_kept-returns-in-Err-clause-keeps t c = leaves_same c.in-Err.stop (view c.args.value.now)
 
 pub change_call-returns-in-Function-clause-runs : goal.change_call-returns-in-Function-clause-runs
-change_call-returns-in-Function-clause-runs t c = λ inputs level.
+change_call-returns-in-Function-clause-runs t c = λ tree calls inputs level.
     let p = c.args.self.now in
-    let n = name_of c.args.name.now in
-    let ts = c.args.arguments.now.items in
-    let e = scope_env inputs p.scope.now in
-    let count : c.len-count.result ≡ length ts = c.len-count.ensures ∙ c.args.arguments.now.ok.0 in
+    let x = plain (view c.args.value.now) in
     subst (Changed c.change_body.result (view c.change_body.new.value))
-    (ap (λ own. below p.depth (named c.in-Function.function.now.body) own level (plain (view c.args.value.now))) (c.scope_of_call-scope.ensures inputs)
-    ∙ sym (function_runs p inputs level n ts c.in-Function.function.now c.in-Function.own (plain (view c.args.value.now)) (c.in-Function.ensures inputs ∙ ap (λ k. find_callee n k e) count)))
+    (ap (λ own. below p.depth (named c.in-Function.function.now.body) own level x) (c.scope_of_call-scope.ensures inputs) ∙ sym (subst (Calls p tree c.args.arguments.now.items) c.in-Function.is calls inputs level x))
     (c.change_body.ensures.runs inputs level)
 
 pub change_call-returns-in-Closure-clause-runs : goal.change_call-returns-in-Closure-clause-runs
-change_call-returns-in-Closure-clause-runs t c = λ inputs level.
+change_call-returns-in-Closure-clause-runs t c = λ tree calls inputs level.
     let p = c.args.self.now in
-    let n = name_of c.args.name.now in
-    let ts = c.args.arguments.now.items in
-    let e = scope_env inputs p.scope.now in
-    let count : c.len-count.result ≡ length ts = c.len-count.ensures ∙ c.args.arguments.now.ok.0 in
+    let x = plain (view c.args.value.now) in
     subst (Changed c.change_body-in-Closure.result (view c.change_body-in-Closure.new.value))
-    (sym (closure_runs p inputs level n ts (named c.in-Closure.body.now) c.in-Closure.own (plain (view c.args.value.now)) (c.in-Closure.ensures inputs ∙ ap (λ k. find_callee n k e) count)))
+    (sym (subst (Calls p tree c.args.arguments.now.items) c.in-Closure.is calls inputs level x))
     (c.change_body-in-Closure.ensures.runs inputs level)
 
-pub change_call-returns-in-Nothing-clause-runs : goal.change_call-returns-in-Nothing-clause-runs
-change_call-returns-in-Nothing-clause-runs t c = λ inputs level.
+pub change_call-returns-in-Builtin-clause-runs : goal.change_call-returns-in-Builtin-clause-runs
+change_call-returns-in-Builtin-clause-runs t c = λ tree calls inputs level.
     let p = c.args.self.now in
-    let n = name_of c.args.name.now in
-    let ts = c.args.arguments.now.items in
-    let e = scope_env inputs p.scope.now in
-    let count : c.len-count.result ≡ length ts = c.len-count.ensures ∙ c.args.arguments.now.ok.0 in
-    let b = meaning_of c.builtin_named-builtin.result in
-    let means : b ≡ builtin_named n (length ts) =
-    c.builtin_named-builtin.ensures ∙ ap (λ bs. builtin_named (chars bs) c.len-count.result) c.as_str.ensures.value ∙ ap (builtin_named n) count in
+    let x = plain (view c.args.value.now) in
     subst (Changed c.change_builtin.result (view c.change_builtin.new.value))
-    (ap (λ us. builtin_in p inputs level b (trees_of (map named us)) (plain (view c.args.value.now))) c.as_slice.ensures.value
-    ∙ sym (builtin_runs p inputs level n ts b (plain (view c.args.value.now)) (c.in-Nothing.ensures inputs ∙ ap (λ k. find_callee n k e) count) means))
+    (ap (λ us. builtin_in p inputs level (meaning_of c.in-Builtin.builtin) (trees_of (map named us)) x) c.as_slice.ensures.value ∙ sym (subst (Calls p tree c.args.arguments.now.items) c.in-Builtin.is calls inputs level x))
     (c.change_builtin.ensures.runs inputs level)
-
-pub change_prelude_call-returns-in-Function-clause-runs : goal.change_prelude_call-returns-in-Function-clause-runs
-change_prelude_call-returns-in-Function-clause-runs t c = λ inputs level.
-    let p = c.args.self.now in
-    let n = name_of c.args.name.now in
-    let ts = c.args.arguments.now.items in
-    let e = scope_env inputs p.scope.now in
-    let count : c.len-count.result ≡ length ts = c.len-count.ensures ∙ c.args.arguments.now.ok.0 in
-    subst (Changed c.change_body.result (view c.change_body.new.value))
-    (ap (λ own. below p.depth (named c.in-Function.function.now.body) own level (plain (view c.args.value.now))) (c.scope_of_call-scope.ensures inputs)
-    ∙ sym (prelude_runs p inputs level n ts c.in-Function.function.now c.in-Function.own (plain (view c.args.value.now)) (c.in-Function.ensures inputs ∙ ap (λ k. find_in_prelude n k e) count)))
-    (c.change_body.ensures.runs inputs level)
 
 pub get_builtin-returns-in-Ok : goal.get_builtin-returns-in-Ok
 get_builtin-returns-in-Ok t c = λ inputs level.
@@ -438,6 +414,18 @@ array-returns-in_err-gather t c = λ inputs level.
     stops c.from_residual-in_err-gather.result s _ c.from_residual-in_err-gather.ensures.1
     (subst (λ (x : Item). Ends s (gathered (run p inputs level (named c.args.filter.now) x))) input
     (ends_gathered inputs level 0 s c.new-items.result.items r c.new-items.ensures.items (c.in_err-gather.ensures inputs level)))
+
+pub gather-returns-in-Call : goal.gather-returns-in-Call
+gather-returns-in-Call t c =
+    subst (λ (u : Tree). GathersOf c.args.self.now u (item_of c.args.item.now) c.args.rest.now c.gather_call.result c.args.into.now.items c.gather_call.new.into.items)
+    (sym (ap named c.in-Call.is ∙ named-Call c.in-Call.name c.in-Call.arguments))
+    (c.gather_call.ensures (form.call (name_of c.in-Call.name) (trees_of (map named c.in-Call.arguments.items))) c.called.ensures)
+
+pub gather-returns-in-PreludeCall : goal.gather-returns-in-PreludeCall
+gather-returns-in-PreludeCall t c =
+    subst (λ (u : Tree). GathersOf c.args.self.now u (item_of c.args.item.now) c.args.rest.now c.gather_call-in-PreludeCall.result c.args.into.now.items c.gather_call-in-PreludeCall.new.into.items)
+    (sym (ap named c.in-PreludeCall.is ∙ named-PreludeCall c.in-PreludeCall.name c.in-PreludeCall.arguments))
+    (c.gather_call-in-PreludeCall.ensures (form.prelude_call (name_of c.in-PreludeCall.name) (trees_of (map named c.in-PreludeCall.arguments.items))) c.called_in_prelude-found.ensures)
 
 pub gather_parts-returns : goal.gather_parts-returns
 gather_parts-returns t c = λ inputs level.
@@ -572,54 +560,28 @@ gather_binding-returns-in_ok-copy-in-Whole t c = λ inputs level.
     (subst (Gathers (made inputs level c.args.rest.now) c.gather.result c.args.into.now.items c.gather.new.into.items) (ap (λ y. bind (source y) body) input ∙ sym same) (c.gather.ensures inputs level))
 
 pub gather_call-returns-in-Function : goal.gather_call-returns-in-Function
-gather_call-returns-in-Function t c = λ inputs level.
+gather_call-returns-in-Function t c = λ tree calls inputs level.
     let p = c.args.self.now in
-    let n = name_of c.args.name.now in
-    let ts = c.args.arguments.now.items in
-    let e = scope_env inputs p.scope.now in
-    let count : c.len-count.result ≡ length ts = c.len-count.ensures ∙ c.args.arguments.now.ok.0 in
+    let x = item_of c.args.item.now in
     subst (λ r. Gathers (made inputs level c.args.rest.now) c.gather_body.result c.args.into.now.items c.gather_body.new.into.items (bind r (rest_run inputs level c.args.rest.now)))
-    (ap (λ own. below p.depth (named c.in-Function.function.now.body) own level (item_of c.args.item.now)) (c.scope_of_call-scope.ensures inputs)
-    ∙ sym (function_runs p inputs level n ts c.in-Function.function.now c.in-Function.own (item_of c.args.item.now) (c.in-Function.ensures inputs ∙ ap (λ k. find_callee n k e) count)))
+    (ap (λ own. below p.depth (named c.in-Function.function.now.body) own level x) (c.scope_of_call-scope.ensures inputs) ∙ sym (subst (Calls p tree c.args.arguments.now.items) c.in-Function.is calls inputs level x))
     (c.gather_body.ensures inputs level)
 
 pub gather_call-returns-in-Closure : goal.gather_call-returns-in-Closure
-gather_call-returns-in-Closure t c = λ inputs level.
+gather_call-returns-in-Closure t c = λ tree calls inputs level.
     let p = c.args.self.now in
-    let n = name_of c.args.name.now in
-    let ts = c.args.arguments.now.items in
-    let e = scope_env inputs p.scope.now in
-    let count : c.len-count.result ≡ length ts = c.len-count.ensures ∙ c.args.arguments.now.ok.0 in
+    let x = item_of c.args.item.now in
     subst (λ r. Gathers (made inputs level c.args.rest.now) c.gather_body-in-Closure.result c.args.into.now.items c.gather_body-in-Closure.new.into.items (bind r (rest_run inputs level c.args.rest.now)))
-    (sym (closure_runs p inputs level n ts (named c.in-Closure.body.now) c.in-Closure.own (item_of c.args.item.now) (c.in-Closure.ensures inputs ∙ ap (λ k. find_callee n k e) count)))
+    (sym (subst (Calls p tree c.args.arguments.now.items) c.in-Closure.is calls inputs level x))
     (c.gather_body-in-Closure.ensures inputs level)
 
-pub gather_call-returns-in-Nothing : goal.gather_call-returns-in-Nothing
-gather_call-returns-in-Nothing t c = λ inputs level.
+pub gather_call-returns-in-Builtin : goal.gather_call-returns-in-Builtin
+gather_call-returns-in-Builtin t c = λ tree calls inputs level.
     let p = c.args.self.now in
-    let n = name_of c.args.name.now in
-    let ts = c.args.arguments.now.items in
-    let e = scope_env inputs p.scope.now in
-    let count : c.len-count.result ≡ length ts = c.len-count.ensures ∙ c.args.arguments.now.ok.0 in
-    let b = meaning_of c.builtin_named-builtin.result in
-    let means : b ≡ builtin_named n (length ts) =
-    c.builtin_named-builtin.ensures ∙ ap (λ bs. builtin_named (chars bs) c.len-count.result) c.as_str.ensures.value ∙ ap (builtin_named n) count in
+    let x = item_of c.args.item.now in
     subst (λ r. Gathers (made inputs level c.args.rest.now) c.gather_builtin.result c.args.into.now.items c.gather_builtin.new.into.items (bind r (rest_run inputs level c.args.rest.now)))
-    (ap (λ us. builtin_in p inputs level b (trees_of (map named us)) (item_of c.args.item.now)) c.as_slice.ensures.value
-    ∙ sym (builtin_runs p inputs level n ts b (item_of c.args.item.now) (c.in-Nothing.ensures inputs ∙ ap (λ k. find_callee n k e) count) means))
+    (ap (λ us. builtin_in p inputs level (meaning_of c.in-Builtin.builtin) (trees_of (map named us)) x) c.as_slice.ensures.value ∙ sym (subst (Calls p tree c.args.arguments.now.items) c.in-Builtin.is calls inputs level x))
     (c.gather_builtin.ensures inputs level)
-
-pub gather_prelude_call-returns-in-Function : goal.gather_prelude_call-returns-in-Function
-gather_prelude_call-returns-in-Function t c = λ inputs level.
-    let p = c.args.self.now in
-    let n = name_of c.args.name.now in
-    let ts = c.args.arguments.now.items in
-    let e = scope_env inputs p.scope.now in
-    let count : c.len-count.result ≡ length ts = c.len-count.ensures ∙ c.args.arguments.now.ok.0 in
-    subst (λ r. Gathers (made inputs level c.args.rest.now) c.gather_body.result c.args.into.now.items c.gather_body.new.into.items (bind r (rest_run inputs level c.args.rest.now)))
-    (ap (λ own. below p.depth (named c.in-Function.function.now.body) own level (item_of c.args.item.now)) (c.scope_of_call-scope.ensures inputs)
-    ∙ sym (prelude_runs p inputs level n ts c.in-Function.function.now c.in-Function.own (item_of c.args.item.now) (c.in-Function.ensures inputs ∙ ap (λ k. find_in_prelude n k e) count)))
-    (c.gather_body.ensures inputs level)
 
 pub gather_body-returns : goal.gather_body-returns
 gather_body-returns t c = λ inputs level.

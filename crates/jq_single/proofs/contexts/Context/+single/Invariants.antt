@@ -127,9 +127,6 @@ decreases-change_binding l = 32 * l.self.now.fuel + 3
 abbrev pub decreases-change_call : goal.decreases-change_call
 decreases-change_call l = 32 * l.self.now.fuel + 11
 
-abbrev pub decreases-change_prelude_call : goal.decreases-change_prelude_call
-decreases-change_prelude_call l = 32 * l.self.now.fuel + 11
-
 abbrev pub decreases-change_body : goal.decreases-change_body
 decreases-change_body l = 32 * l.self.now.fuel + 5
 
@@ -219,9 +216,6 @@ decreases-gather_define l = 32 * l.self.now.fuel + 5
 
 abbrev pub decreases-gather_call : goal.decreases-gather_call
 decreases-gather_call l = 32 * l.self.now.fuel + 13
-
-abbrev pub decreases-gather_prelude_call : goal.decreases-gather_prelude_call
-decreases-gather_prelude_call l = 32 * l.self.now.fuel + 13
 
 abbrev pub decreases-gather_body : goal.decreases-gather_body
 decreases-gather_body l = 32 * l.self.now.fuel + 5
