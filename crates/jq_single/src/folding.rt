@@ -1,4 +1,4 @@
-// `reduce`, whose state each step changes in place.
+// Folds (`reduce`), whose state each step changes in place.
 ghost use Rattle.std.specs.Prelude.{◌≡◌, ◌∷◌, [], IfSome, OnOk};
 ghost use Rattle.jv_data.specs.Text.{text_of};
 ghost use Rattle.jv_data.specs.View.{view};
@@ -6,8 +6,8 @@ ghost use Rattle.jq_ast.specs.Named.{named, named_as_pattern};
 ghost use Rattle.jq_tree.specs.Tree as form;
 ghost use Rattle.jq_meaning.specs.Runs.{plain};
 ghost use Rattle.jq_single.specs.Single.{Keeps};
-ghost use Rattle.jq_single.specs.private.Gathering.{FoldsFrom, FoldsIn, GathersAll, GathersTurn, Steps, Turns, state_in};
-ghost use Rattle.jq_single.specs.private.Parts.{ChangesTo, RunsTo};
+ghost use Rattle.jq_single.specs.private.Gathering.{FoldsAs, FoldsFrom, GathersAll, GathersTurn, Steps, Turns, state_in};
+ghost use Rattle.jq_single.specs.private.Parts.{ChangesTo};
 
 use crate::contexts::Context;
 use crate::rests::Rest;
@@ -22,36 +22,80 @@ use jv_data::{NoMemory, Val};
 const MOST: usize = 65_536;
 
 impl<'s> Context<'s> {
-    /// `reduce f as $x (g; h)`. If the state would be a copy of a large input, and the source has few outputs, the machine runs
-    /// the filter.
+    /// `reduce f as $x (g; h)`, whose result replaces the input. A pattern other than one variable is not matched at once.
     #[cycle(single)]
     #[inline(never)]
-    pub(crate) fn reduce(
+    pub(crate) fn change_reduce(
         &self,
         source: &'s Tree,
         pattern: &'s Pattern,
         start: &'s Tree,
         update: &'s Tree,
-        value: &Val,
-    ) -> Result<Val, Stop>
-        ensures { RunsTo self.now (form.reduce (named source.now) (named_as_pattern pattern.now) (named start.now) (named update.now)) (view value.now) result }
+        value: &mut Val,
+    ) -> Result<(), Stop>
+        ensures runs { ChangesTo self.now (form.reduce (named source.now) (named_as_pattern pattern.now) (named start.now) (named update.now)) (view value.old) (view value.new) result }
+        ensures keeps { Keeps result (view value.old) (view value.new) }
     {
-        match pattern {
-            Pattern::Whole(name) => {
-                if copies(start, value) && !self.may_copy(source, value) {
-                    return Err(Stop::Unknown);
-                }
-                let state = self.get(start, value)?;
-                self.fold(source, name, state, update, value)
-            }
-            _ => Err(Stop::Unknown),
+        let Pattern::Whole(name) = pattern else {
+            return Err(Stop::Unknown);
+        };
+        match start {
+            Tree::Identity if !self.kept => self.change_fold(source, name, start, update, value),
+            _ => self.change_from(source, name, start, update, value),
         }
     }
 
-    /// Whether a source has so many outputs that a fold may change a copy of its input.
+    // The fold of the input. With one output of the source the input is changed in place; with more a copy of it is, since a
+    // later step may be one that is not run at once.
     #[cycle(single)]
     #[inline(never)]
-    pub(crate) fn may_copy(&self, source: &'s Tree, value: &Val) -> bool {
+    fn change_fold(
+        &self,
+        source: &'s Tree,
+        name: &'s String,
+        start: &'s Tree,
+        update: &'s Tree,
+        value: &mut Val,
+    ) -> Result<(), Stop>
+        ensures runs { named start.now ≡ form.identity → FoldsAs self.now (named source.now) (text_of name.now) (named start.now) (named update.now) (view value.old) (view value.new) result }
+        ensures keeps { Keeps result (view value.old) (view value.new) }
+    {
+        let mut values = Vec::new(self.alloc);
+        match self.gather_source(source, value, 2, &mut values) {
+            Ok(()) => match single_of(values.as_slice()) {
+                Some(single) => self.step(name, update, single, value),
+                None => self.change_from(source, name, start, update, value),
+            },
+            Err(_stop) => self.change_from(source, name, start, update, value),
+        }
+    }
+
+    // The fold of a state that is made first. If the state would be a copy of a large input, and the source has few outputs, the
+    // machine runs the filter.
+    #[cycle(single)]
+    #[inline(never)]
+    fn change_from(
+        &self,
+        source: &'s Tree,
+        name: &'s String,
+        start: &'s Tree,
+        update: &'s Tree,
+        value: &mut Val,
+    ) -> Result<(), Stop>
+        ensures runs { FoldsAs self.now (named source.now) (text_of name.now) (named start.now) (named update.now) (view value.old) (view value.new) result }
+        ensures keeps { Keeps result (view value.old) (view value.new) }
+    {
+        if copies(start, value) && !self.may_copy(source, value) {
+            return Err(Stop::Unknown);
+        }
+        let state = self.get(start, value)?;
+        self.fold(source, name, state, update, value)
+    }
+
+    // Whether a source has so many outputs that a fold may change a copy of its input.
+    #[cycle(single)]
+    #[inline(never)]
+    fn may_copy(&self, source: &'s Tree, value: &Val) -> bool {
         let mut values = Vec::new(self.alloc);
         match self.gather_source(source, value, MOST, &mut values) {
             Ok(()) => pays_for_copy(value, values.as_slice()),
@@ -59,11 +103,11 @@ impl<'s> Context<'s> {
         }
     }
 
-    /// The outputs of a source. A source that is run only to find them out has half of the fuel, so that folds in the
-    /// sources of folds are not run more often at each level.
+    // The outputs of a source. A source that is run only to find them out has half of the fuel, so that folds in the
+    // sources of folds are not run more often at each level.
     #[cycle(single)]
     #[inline(never)]
-    pub(crate) fn gather_source(
+    fn gather_source(
         &self,
         source: &'s Tree,
         value: &Val,
@@ -82,85 +126,8 @@ impl<'s> Context<'s> {
         tried.gather(&*source, &input, &end, into)
     }
 
-    /// `reduce f as $x (g; h)`, whose result replaces the input.
-    #[cycle(single)]
-    #[inline(never)]
-    pub(crate) fn change_reduce(
-        &self,
-        source: &'s Tree,
-        pattern: &'s Pattern,
-        start: &'s Tree,
-        update: &'s Tree,
-        value: &mut Val,
-    ) -> Result<(), Stop>
-        ensures runs { ChangesTo self.now (form.reduce (named source.now) (named_as_pattern pattern.now) (named start.now) (named update.now)) (view value.old) (view value.new) result }
-        ensures keeps { Keeps result (view value.old) (view value.new) }
-    {
-        match start {
-            Tree::Identity if !self.kept => match pattern {
-                Pattern::Whole(name) => self.change_fold(source, name, update, value),
-                _ => Err(Stop::Unknown),
-            },
-            _ => match self.reduce(source, pattern, start, update, value) {
-                Ok(output) => {
-                    *value = output;
-                    Ok(())
-                }
-                Err(stop) => Err(stop),
-            },
-        }
-    }
-
-    // The fold of the input. With one output of the source the input is changed in place; with more a copy of it is, since a
-    // later step may be one that is not run at once.
-    #[cycle(single)]
-    #[inline(never)]
-    fn change_fold(
-        &self,
-        source: &'s Tree,
-        name: &'s String,
-        update: &'s Tree,
-        value: &mut Val,
-    ) -> Result<(), Stop>
-        ensures runs { FoldsIn self.now (named source.now) (text_of name.now) (named update.now) (view value.old) (view value.new) result }
-        ensures keeps { Keeps result (view value.old) (view value.new) }
-    {
-        let mut values = Vec::new(self.alloc);
-        match self.gather_source(source, value, 2, &mut values) {
-            Ok(()) => match single_of(values.as_slice()) {
-                Some(single) => self.step(name, update, single, value),
-                None => self.change_copy(source, name, update, value),
-            },
-            Err(_stop) => self.change_copy(source, name, update, value),
-        }
-    }
-
-    // The fold of a copy of the input.
-    #[cycle(single)]
-    fn change_copy(
-        &self,
-        source: &'s Tree,
-        name: &'s String,
-        update: &'s Tree,
-        value: &mut Val,
-    ) -> Result<(), Stop>
-        ensures runs { FoldsIn self.now (named source.now) (text_of name.now) (named update.now) (view value.old) (view value.new) result }
-        ensures keeps { Keeps result (view value.old) (view value.new) }
-    {
-        if !self.may_copy(source, value) {
-            return Err(Stop::Unknown);
-        }
-        let state = value.copy()?;
-        match self.fold(source, name, state, update, value) {
-            Ok(state) => {
-                *value = state;
-                Ok(())
-            }
-            Err(stop) => Err(stop),
-        }
-    }
-
-    // The last state, from a known state. The list has one value, the state, which each output of the source changes.
+    // The last state, from a known state, replaces the input. The list has one value, the state, which each output of the source
+    // changes.
     #[cycle(single)]
     fn fold(
         &self,
@@ -168,9 +135,10 @@ impl<'s> Context<'s> {
         name: &'s String,
         state: Val,
         update: &'s Tree,
-        value: &Val,
-    ) -> Result<Val, Stop>
-        ensures { FoldsFrom self.now (named source.now) (text_of name.now) (named update.now) (view state) (view value.now) result }
+        value: &mut Val,
+    ) -> Result<(), Stop>
+        ensures runs { FoldsFrom self.now (named source.now) (text_of name.now) (named update.now) (view state) (view value.old) (view value.new) result }
+        ensures keeps { Keeps result (view value.old) (view value.new) }
     {
         let mut states = Vec::new(self.alloc);
         keep(&mut states, state)?;
@@ -178,7 +146,10 @@ impl<'s> Context<'s> {
         let update = Rest::Fold(&*name, &*update, &*self);
         match (&*self).gather(&*source, &input, &update, &mut states) {
             Ok(()) => match take(&mut states) {
-                Some(state) => Ok(state),
+                Some(state) => {
+                    *value = state;
+                    Ok(())
+                }
                 None => Err(Stop::Unknown),
             },
             Err(stop) => Err(stop),
@@ -201,14 +172,13 @@ impl<'s> Context<'s> {
         let Some(mut state) = take(states) else {
             return Err(Stop::Unknown);
         };
-        let scope = Scope::Value(&*context.scope, &*name, &*value);
         let inside = Context {
-            scope: &scope,
+            scope: context.scope,
             depth: context.depth,
             kept: false,
             ..*self
         };
-        match inside.change_to_next(&*update, &mut state) {
+        match inside.step(name, update, value, &mut state) {
             Ok(()) => Ok(keep(states, state)?),
             Err(stop) => Err(stop),
         }

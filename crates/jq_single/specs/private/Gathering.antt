@@ -6,7 +6,7 @@ use Rattle.jv_data.specs.View.{view}
 use Rattle.jv_data.specs.declared.values.Val.{Val}
 use Rattle.jq_ast.specs.Leaves.{key_of}
 use Rattle.jq_ast.specs.Named.{named}
-use Rattle.jq_tree.specs.Tree.{Name, Tree, Trees, whole}
+use Rattle.jq_tree.specs.Tree.{Name, Tree, Trees, reduce, whole}
 use Rattle.jq_meaning.specs.machine.Operations.{path_item}
 use Rattle.jq_meaning.specs.Builtins.{Builtin, numbers_up_to}
 use Rattle.jq_meaning.specs.Continuations.{on_source, on_state, on_target}
@@ -18,7 +18,7 @@ use Rattle.jq_meaning.specs.Steps.{each_part}
 use Rattle.jq_state.specs.Items.{item_of}
 use Rattle.jq_state.specs.declared.items.Item as items
 use Rattle.jq_single.specs.Single.{Changed, Ends}
-use Rattle.jq_single.specs.private.Parts.{Answers, body_in, builtin_in, run}
+use Rattle.jq_single.specs.private.Parts.{ChangesTo, body_in, builtin_in, run}
 use Rattle.jq_single.specs.private.Scopes.{scope_env}
 use Rattle.jq_single.specs.declared.contexts.Context.{Context}
 use Rattle.jq_single.specs.declared.rests.Rest.{Rest}
@@ -131,9 +131,10 @@ fold_run p inputs level t n u state v =
     let sources = bind (run p inputs level t (plain v)) (on_source (bindings_with (below p.depth) (whole n) level) (scope_env inputs p.scope.now)) in
     reduced (on_state (meaning p.depth u) level) sources.items sources.ending (plain state)
 
-abbrev pub FoldsFrom : Context → (source : Tree) → Name → (update : Tree) → (state v : Value) → Result Val Stop → Type 0
-FoldsFrom p t n u state v result = (inputs : Run Value) (level : ℕ) → Answers result (fold_run p inputs level t n u state v)
+-- Its result takes the place of the input.
+abbrev pub FoldsFrom : {A : Type 0} → Context → (source : Tree) → Name → (update : Tree) → (state before later : Value) → Result A Stop → Type 0
+FoldsFrom p t n u state v w result = (inputs : Run Value) (level : ℕ) → Changed result w (fold_run p inputs level t n u state v)
 
--- The same from the input, where the result takes its place.
-abbrev pub FoldsIn : {A : Type 0} → Context → (source : Tree) → Name → (update : Tree) → (before later : Value) → Result A Stop → Type 0
-FoldsIn p t n u v w result = (inputs : Run Value) (level : ℕ) → Changed result w (fold_run p inputs level t n u v v)
+-- The same from a start.
+abbrev pub FoldsAs : {A : Type 0} → Context → (source : Tree) → Name → (start update : Tree) → (before later : Value) → Result A Stop → Type 0
+FoldsAs p t n start u v w result = ChangesTo p (reduce t (whole n) start u) v w result

@@ -850,11 +850,8 @@ member-returns-in_err-found t c = λ inputs level.
 
 -- ---- folds
 
-pub change_reduce-returns-in-Err-clause-keeps : goal.change_reduce-returns-in-Err-clause-keeps
-change_reduce-returns-in-Err-clause-keeps t c = leaves_same c.in-Err.stop (view c.args.value.now)
-
-pub fold-returns-in-Some : goal.fold-returns-in-Some
-fold-returns-in-Some t c = λ inputs level.
+pub fold-returns-in-Some-clause-runs : goal.fold-returns-in-Some-clause-runs
+fold-returns-in-Some-clause-runs t c = λ inputs level.
     let p = c.args.self.now in
     let v = view c.args.value.now in
     let n = text_of c.args.name.now in
@@ -867,8 +864,11 @@ fold-returns-in-Some t c = λ inputs level.
     fold_ends (below p.depth) level n e (meaning p.depth u) (source (plain v)) held (view c.args.state) result c.in_ok-keep.ensures
     (subst (λ (x : Item). folded p inputs level n u held (then_run (bind (source x) one) none) ≡ result) input (c.in-Ok.ensures inputs level none ∙ ap one c.in-Some.ensures))
 
-pub fold-returns : goal.fold-returns
-fold-returns t c = λ inputs level.
+pub fold-returns-clause-keeps : goal.fold-returns-clause-keeps
+fold-returns-clause-keeps t c = leaves_same c.in-Err.stop (view c.args.value.now)
+
+pub fold-returns-clause-runs : goal.fold-returns-clause-runs
+fold-returns-clause-runs t c = λ inputs level.
     let p = c.args.self.now in
     let v = view c.args.value.now in
     let n = text_of c.args.name.now in
@@ -889,48 +889,49 @@ gather_source-returns t c =
     (c.plain-input.ensures ∙ ap plain c.in_ok-copy.ensures) c.requires c.gather.ensures
 
 pub change_fold-returns-in-Some-clause-runs : goal.change_fold-returns-in-Some-clause-runs
-change_fold-returns-in-Some-clause-runs t c = λ inputs level.
+change_fold-returns-in-Some-clause-runs t c = λ is inputs level.
     let p = c.args.self.now in
-    let v = view c.args.value.now in
+    let x : Item = plain (view c.args.value.now) in
     let n = text_of c.args.name.now in
-    let r = run p inputs level (named c.args.source.now) (plain v) in
+    let r = run p inputs level (named c.args.source.now) x in
+    let sources = bind (run p inputs level (named c.args.source.now) x) (on_source (bindings_with (below p.depth) (whole (text_of c.args.name.now)) level) (scope_env inputs p.scope.now)) in
     let single = c.in-Some.single.now in
     let same : gathered r ≡ one (plain (array (items_of (view single ∷ [])))) =
     c.in-Ok.ensures inputs level ∙ ap (λ (xs : List Val). one (plain (array (items_of (map view xs))))) (sym c.as_slice.ensures.value ∙ c.in-Some.ensures) in
-    subst (Changed c.step.result (view c.step.new.state))
-    (sym (single_fold (below p.depth) level n (scope_env inputs p.scope.now) (meaning p.depth (named c.args.update.now)) r.items r.ending (view single) (plain v) same))
-    (goes-changed c.step.result (view c.step.new.state) _ (c.step.ensures.runs inputs level one))
+    subst (λ (s : Tree). Changed c.step.result (view c.step.new.state) (run p inputs level (reduce (named c.args.source.now) (whole n) s (named c.args.update.now)) x)) (sym is)
+    (changed-bind c.step.result (view c.step.new.state) (one x) x (reduced (on_state (meaning p.depth (named c.args.update.now)) level) sources.items sources.ending) refl
+    (subst (Changed c.step.result (view c.step.new.state))
+    (sym (single_fold (below p.depth) level n (scope_env inputs p.scope.now) (meaning p.depth (named c.args.update.now)) r.items r.ending (view single) x same))
+    (goes-changed c.step.result (view c.step.new.state) _ (c.step.ensures.runs inputs level one))))
 
-pub change_reduce-returns-in-Whole-clause-runs : goal.change_reduce-returns-in-Whole-clause-runs
-change_reduce-returns-in-Whole-clause-runs t c = λ inputs level.
-    let p = c.args.self.now in
-    let x : Item = plain (view c.args.value.now) in
-    let sources = bind (run p inputs level (named c.args.source.now) x) (on_source (bindings_with (below p.depth) (whole (text_of c.in-Whole.name)) level) (scope_env inputs p.scope.now)) in
-    subst (λ q. Changed c.change_fold.result (view c.change_fold.new.value) (run p inputs level (reduce (named c.args.source.now) q (named c.args.start.now) (named c.args.update.now)) x))
-    (sym (ap named_as_pattern c.in-Whole.is ∙ named-Whole c.in-Whole.name))
-    (subst (λ s. Changed c.change_fold.result (view c.change_fold.new.value) (run p inputs level (reduce (named c.args.source.now) (whole (text_of c.in-Whole.name)) s (named c.args.update.now)) x))
-    (sym (ap named c.in-Identity.is ∙ named-Identity))
-    (changed-bind c.change_fold.result (view c.change_fold.new.value) (one x) x (reduced (on_state (meaning p.depth (named c.args.update.now)) level) sources.items sources.ending)
-    refl (c.change_fold.ensures.runs inputs level)))
-
-pub reduce-returns-in_ok-state-in-Whole : goal.reduce-returns-in_ok-state-in-Whole
-reduce-returns-in_ok-state-in-Whole t c = λ inputs level.
+pub change_from-returns-clause-runs : goal.change_from-returns-clause-runs
+change_from-returns-clause-runs t c = λ inputs level.
     let p = c.args.self.now in
     let x = plain (view c.args.value.now) in
-    let sources = bind (run p inputs level (named c.args.source.now) x) (on_source (bindings_with (below p.depth) (whole (text_of c.in-Whole.name)) level) (scope_env inputs p.scope.now)) in
-    subst (λ q. Answers c.fold.result (run p inputs level (reduce (named c.args.source.now) q (named c.args.start.now) (named c.args.update.now)) x))
-    (sym (ap named_as_pattern c.in-Whole.is ∙ named-Whole c.in-Whole.name))
-    (answers-bind c.fold.result (run p inputs level (named c.args.start.now) x) (plain (view c.in_ok-state-in-Whole.state)) (reduced (on_state (meaning p.depth (named c.args.update.now)) level) sources.items sources.ending)
-    (c.in_ok-state-in-Whole.ensures inputs level) (c.fold.ensures inputs level))
+    let sources = bind (run p inputs level (named c.args.source.now) x) (on_source (bindings_with (below p.depth) (whole (text_of c.args.name.now)) level) (scope_env inputs p.scope.now)) in
+    changed-bind c.fold.result (view c.fold.new.value) (run p inputs level (named c.args.start.now) x) (plain (view c.in_ok-state.state))
+    (reduced (on_state (meaning p.depth (named c.args.update.now)) level) sources.items sources.ending) (c.in_ok-state.ensures inputs level) (c.fold.ensures.runs inputs level)
 
-pub reduce-returns-in_err-state-in-Whole : goal.reduce-returns-in_err-state-in-Whole
-reduce-returns-in_err-state-in-Whole t c = λ inputs level.
+pub change_from-returns-in_err-state-clause-runs : goal.change_from-returns-in_err-state-clause-runs
+change_from-returns-in_err-state-clause-runs t c = λ inputs level.
     let p = c.args.self.now in
     let x = plain (view c.args.value.now) in
-    let sources = bind (run p inputs level (named c.args.source.now) x) (on_source (bindings_with (below p.depth) (named_as_pattern c.args.pattern.now) level) (scope_env inputs p.scope.now)) in
-    let s = c.in_err-state-in-Whole.field-0.0 in
-    stops c.from_residual.result s _ c.from_residual.ensures.1
-    (ends-bind s (run p inputs level (named c.args.start.now) x) (reduced (on_state (meaning p.depth (named c.args.update.now)) level) sources.items sources.ending) (c.in_err-state-in-Whole.ensures inputs level))
+    let sources = bind (run p inputs level (named c.args.source.now) x) (on_source (bindings_with (below p.depth) (whole (text_of c.args.name.now)) level) (scope_env inputs p.scope.now)) in
+    changed-stops c.from_residual.result c.in_err-state.field-0.0 _ _ c.from_residual.ensures.1
+    (ends-bind c.in_err-state.field-0.0 (run p inputs level (named c.args.start.now) x) (reduced (on_state (meaning p.depth (named c.args.update.now)) level) sources.items sources.ending) (c.in_err-state.ensures inputs level))
+
+pub change_from-returns-in_err-state-clause-keeps : goal.change_from-returns-in_err-state-clause-keeps
+change_from-returns-in_err-state-clause-keeps t c = keeps-stops c.from_residual.result c.in_err-state.field-0.0 (view c.args.value.now) c.from_residual.ensures.1
+
+pub change_reduce-returns-in-Identity-clause-runs : goal.change_reduce-returns-in-Identity-clause-runs
+change_reduce-returns-in-Identity-clause-runs t c =
+    subst (λ q. ChangesTo c.args.self.now (reduce (named c.args.source.now) q (named c.args.start.now) (named c.args.update.now)) (view c.args.value.now) (view c.change_fold.new.value) c.change_fold.result)
+    (sym (ap named_as_pattern c.in-Whole.is ∙ named-Whole c.in-Whole.name)) (c.change_fold.ensures.runs (ap named c.in-Identity.is ∙ named-Identity))
+
+pub change_reduce-returns-clause-runs : goal.change_reduce-returns-clause-runs
+change_reduce-returns-clause-runs t c =
+    subst (λ q. ChangesTo c.args.self.now (reduce (named c.args.source.now) q (named c.args.start.now) (named c.args.update.now)) (view c.args.value.now) (view c.change_from.new.value) c.change_from.result)
+    (sym (ap named_as_pattern c.in-Whole.is ∙ named-Whole c.in-Whole.name)) c.change_from.ensures.runs
 
 pub turn-returns-in_ok-keep-in-Ok : goal.turn-returns-in_ok-keep-in-Ok
 turn-returns-in_ok-keep-in-Ok t c = λ inputs level.

@@ -88,8 +88,8 @@ decreases-pieces l = 32 * l.self.now.fuel + 11
 abbrev pub decreases-first_piece : goal.decreases-first_piece
 decreases-first_piece l = 32 * l.self.now.fuel + 10
 
-abbrev pub decreases-reduce : goal.decreases-reduce
-decreases-reduce l = 32 * l.self.now.fuel + 4
+abbrev pub decreases-change_from : goal.decreases-change_from
+decreases-change_from l = 32 * l.self.now.fuel + 4
 
 abbrev pub decreases-may_copy : goal.decreases-may_copy
 decreases-may_copy l = 32 * l.self.now.fuel + 2
@@ -141,9 +141,6 @@ decreases-change_reduce l = 32 * l.self.now.fuel + 7
 
 abbrev pub decreases-change_fold : goal.decreases-change_fold
 decreases-change_fold l = 32 * l.self.now.fuel + 5
-
-abbrev pub decreases-change_copy : goal.decreases-change_copy
-decreases-change_copy l = 32 * l.self.now.fuel + 4
 
 abbrev pub decreases-step : goal.decreases-step
 decreases-step l = 32 * l.self.now.fuel + 2
