@@ -1,9 +1,11 @@
 -- The bodies that a call runs.
-use Rattle.std.proofs.Common.{◌≡◌, ◌∙◌, ℕ, ◌+◌, List, map, length, refl, sym, ap, add-one}
+use Rattle.std.proofs.Common.{◌≡◌, ◌∙◌, ℕ, ◌+◌, List, true, map, length, refl, sym, ap, add-one}
+use Rattle.std.proofs.lemmas.Bool.{false≢true}
 use Rattle.jv_data.specs.Text.{text_of}
-use Rattle.jv_data.specs.Value.{Value}
+use Rattle.jv_data.specs.Value.{Value, string}
 use Rattle.jq_ast.proofs.shared.Counts.{count_trees}
-use Rattle.jq_ast.specs.Leaves.{literal_of}
+use Rattle.jq_ast.specs.Constants.{is_text}
+use Rattle.jq_ast.specs.Leaves.{characters, literal_of}
 use Rattle.jq_ast.specs.Named.{named, named_member, named_pattern, named_tree}
 use Rattle.jq_ast.specs.declared.leaves.Literal.{Literal}
 use Rattle.jq_ast.specs.declared.tree.Function.{Function}
@@ -86,3 +88,8 @@ named-Identity = ap named (sym code.rolls-Identity) ∙ fold-roll-Tree tree.Part
 -- the tree of a constant
 pub named-Literal : (l : Literal) → named (code.Literal l) ≡ tree.literal (literal_of l)
 named-Literal l = ap named (sym (code.rolls-Literal l)) ∙ fold-roll-Tree tree.Part tree.Pattern tree.Tree named_member named_pattern named_tree (Tree-F.Literal l)
+
+-- a text is the string of its characters
+pub text_is : (v : Value) → is_text v ≡ true → v ≡ string (characters v)
+text_is (string s) h = refl
+text_is v h = absurd (false≢true h)

@@ -64,7 +64,7 @@ impl<'s> Context<'s> {
             Tree::Text(format, pieces, last) => self.text(format, pieces.as_slice(), last, value),
             Tree::Format(format) => get_format(self.alloc, format, value),
             Tree::Variable(name) => Ok(value_of(self.scope, name)?),
-            Tree::Field(target, key, guarded) => self.field(target, key, *guarded, value),
+            Tree::Field(target, key, guarded) => self.field(target, key.value(), *guarded, value),
             Tree::Index(target, key, guarded) => self.index(target, key, *guarded, value),
             Tree::Slice(target, from, to, guarded) => self.slice(target, from, to, *guarded, value),
             Tree::Pipe(first, second) => self.pipe(first, second, value),

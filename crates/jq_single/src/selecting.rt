@@ -1,35 +1,34 @@
 // Steps to a part of a filter's output.
 ghost use Rattle.jv_data.specs.View.{view};
-ghost use Rattle.jq_ast.specs.Leaves.{key_of};
 ghost use Rattle.jq_ast.specs.Named.{named};
 ghost use Rattle.jq_tree.specs.Tree as form;
 ghost use Rattle.jq_meaning.specs.Continuations.{on_target};
 ghost use Rattle.jq_meaning.specs.Runs.{plain};
-ghost use Rattle.jq_single.specs.private.Parts.{Answers, RunsTo};
+ghost use Rattle.jq_single.specs.private.Parts.{Answers, Follows, RunsTo};
 
 use crate::contexts::Context;
 use crate::stops::{Stop, refused};
-use jq_ast::{Key, Tree};
+use jq_ast::Tree;
 use jq_operations::slice_key;
 use jv_data::{Fail, Val};
 use jv_value::index;
 use std::alloc::Global;
 
 impl<'s> Context<'s> {
-    /// `f.a`.
+    /// `f.a`, or the part of the output of a filter at a key that is known.
     #[cycle(single)]
     #[inline(never)]
     pub(crate) fn field(
         &self,
         target: &'s Tree,
-        key: &Key,
+        key: &Val,
         guarded: bool,
         value: &Val,
     ) -> Result<Val, Stop>
-        ensures { RunsTo self.now (form.field (named target.now) (key_of key.now) guarded) (view value.now) result }
+        ensures { Follows self.now (named target.now) (view value.now) (on_target guarded (view key.now)) result }
     {
         let found = self.get_part(target, value)?;
-        part_at(self.alloc, guarded, &found, key.value())
+        part_at(self.alloc, guarded, &found, key)
     }
 
     /// `f[g]`: the key is run first.
@@ -45,8 +44,7 @@ impl<'s> Context<'s> {
         ensures { RunsTo self.now (form.index (named target.now) (named key.now) guarded) (view value.now) result }
     {
         let at = self.get_part(key, value)?;
-        let found = self.get_part(target, value)?;
-        part_at(self.alloc, guarded, &found, &at)
+        self.field(target, &at, guarded, value)
     }
 
     /// `f[g:h]`: the start is run first, and then the end.
@@ -65,8 +63,7 @@ impl<'s> Context<'s> {
         let start = self.get(from, value)?;
         let end = self.get(to, value)?;
         let bounds = slice_key(self.alloc, start, end)?;
-        let found = self.get(target, value)?;
-        part_at(self.alloc, guarded, &found, &bounds)
+        self.field(target, &bounds, guarded, value)
     }
 }
 

@@ -7,12 +7,11 @@ use Rattle.jv_data.proofs.shared.Levels.{view-Bool, view-List}
 use Rattle.jv_data.specs.Shared.{text_in}
 use Rattle.jv_data.specs.Value.{Value, Members, array, items_of, string}
 use Rattle.jv_data.specs.Text.{text_of}
-use Rattle.jv_value.specs.Index.{slice_key}
 use Rattle.jv_data.specs.View.{view}
 use Rattle.jv_data.specs.declared.values.Val.{Val}
 use Rattle.jq_ast.specs.Leaves.{key_of, operator_of}
 use Rattle.jq_ast.specs.Named.{name_of, named, named_as_pattern, named_entry}
-use Rattle.jq_ast.proofs.shared.Forms.{named-Call, named-PreludeCall, named-Update, named-Object, named-Text, named-Whole}
+use Rattle.jq_ast.proofs.shared.Forms.{named-Call, named-Field, named-PreludeCall, named-Update, named-Object, named-Text, named-Whole}
 use Rattle.jq_tree.specs.Tree as form
 use Rattle.jq_tree.specs.Tree.{Entry, Tree, bind_as, more_entries, object, reduce, text, trees_of, whole}
 use Rattle.jq_operations.specs.Language.{meaning_of}
@@ -47,7 +46,7 @@ use Rattle.jq_single.proofs.FirstOutputs.{answers-first, changed-first, first-th
 use Rattle.jq_single.proofs.Sets.{changed-prop}
 use Rattle.jq_single.proofs.UpdateTurns.{getpath_keys, known_paths, listed_more, modify_tree, turn_lists, turn_raises, turn_sets, two_calls_deep}
 use Rattle.jq_single.proofs.Located.{path_given, paths-rest}
-use Rattle.jq_single.proofs.Bodies.{body_runs, named-Identity}
+use Rattle.jq_single.proofs.Bodies.{body_runs, named-Identity, text_is}
 use Rattle.jq_single.proofs.GivenArguments.{native_plain, two_chosen}
 use Rattle.jq_single.proofs.contexts.Context.+single.Goals as goal
 
@@ -59,6 +58,14 @@ get_made-returns-in-Text t c = λ inputs level.
     let form : named c.args.tree.now ≡ text f (named_pieces c.as_slice.result.now c.in-Text.last) =
     ap named c.in-Text.is ∙ named-Text c.in-Text.format c.in-Text.pieces c.in-Text.last ∙ ap (λ ps. text f (named_pieces ps c.in-Text.last)) (sym c.as_slice.ensures.value) in
     subst (λ (u : Tree). Answers c.text.result (run c.args.self.now inputs level u (plain (view c.args.value.now)))) (sym form) (c.text.ensures inputs level)
+
+pub get_made-returns-in-Field : goal.get_made-returns-in-Field
+get_made-returns-in-Field t c = λ inputs level.
+    let v = plain (view c.args.value.now) in
+    let go : Tree → Run Item = λ u. run c.args.self.now inputs level u v in
+    let key : view c.value.result.now ≡ string (key_of c.in-Field.key) = ap view c.value.ensures.same ∙ text_is (view c.in-Field.key.value) c.in-Field.key.text in
+    subst (λ (u : Tree). Answers c.field.result (go u)) (sym (ap named c.in-Field.is ∙ named-Field c.in-Field.target c.in-Field.key c.in-Field.guarded))
+    (subst (λ (k : Value). Answers c.field.result (bind (go (named c.in-Field.target.value)) (on_target c.in-Field.guarded k))) key (c.field.ensures inputs level))
 
 pub get_made-returns-in-Object : goal.get_made-returns-in-Object
 get_made-returns-in-Object t c = λ inputs level.
@@ -78,33 +85,21 @@ get_changed-returns-in-Err t c = λ inputs level.
 
 pub field-returns-in_err-found : goal.field-returns-in_err-found
 field-returns-in_err-found t c = λ inputs level.
-    let v = plain (view c.args.value.now) in
-    let go : Tree → Item → Run Item = run c.args.self.now inputs level in
-    stops c.from_residual.result c.in_err-found.field-0.0 _ c.from_residual.ensures.1 (ends-bind c.in_err-found.field-0.0 (go (named c.args.target.now) v) (on_target c.args.guarded (string (key_of c.args.key.now))) (c.in_err-found.ensures inputs level))
+    let r = run c.args.self.now inputs level (named c.args.target.now) (plain (view c.args.value.now)) in
+    stops c.from_residual.result c.in_err-found.field-0.0 _ c.from_residual.ensures.1 (ends-bind c.in_err-found.field-0.0 r (on_target c.args.guarded (view c.args.key.now)) (c.in_err-found.ensures inputs level))
 
 pub index-returns : goal.index-returns
 unfolding on_key
 index-returns t c = λ inputs level.
     let v = plain (view c.args.value.now) in
     let go : Tree → Item → Run Item = run c.args.self.now inputs level in
-    answers-bind c.part_at.result (go (named c.args.key.now) v) (plain (view c.in_ok-at.at)) (on_key c.args.guarded (go (named c.args.target.now) v)) (c.in_ok-at.ensures inputs level)
-    (answers-bind c.part_at.result (go (named c.args.target.now) v) (plain (view c.in_ok-found.found)) (on_target c.args.guarded (view c.in_ok-at.at)) (c.in_ok-found.ensures inputs level) c.part_at.ensures)
+    answers-bind c.field.result (go (named c.args.key.now) v) (plain (view c.in_ok-at.at)) (on_key c.args.guarded (go (named c.args.target.now) v)) (c.in_ok-at.ensures inputs level) (c.field.ensures inputs level)
 
 pub index-returns-in_err-at : goal.index-returns-in_err-at
 index-returns-in_err-at t c = λ inputs level.
     let v = plain (view c.args.value.now) in
     let go : Tree → Item → Run Item = run c.args.self.now inputs level in
     stops c.from_residual.result c.in_err-at.field-0.0 _ c.from_residual.ensures.1 (ends-bind c.in_err-at.field-0.0 (go (named c.args.key.now) v) (on_key c.args.guarded (go (named c.args.target.now) v)) (c.in_err-at.ensures inputs level))
-
-pub index-returns-in_err-found : goal.index-returns-in_err-found
-unfolding on_key
-index-returns-in_err-found t c = λ inputs level.
-    let v = plain (view c.args.value.now) in
-    let go : Tree → Item → Run Item = run c.args.self.now inputs level in
-    let s = c.in_err-found.field-0.0 in
-    stops c.from_residual-in_err-found.result s _ c.from_residual-in_err-found.ensures.1
-    (ends-after s (go (named c.args.key.now) v) (plain (view c.in_ok-at.at)) (on_key c.args.guarded (go (named c.args.target.now) v)) (c.in_ok-at.ensures inputs level)
-    (ends-bind s (go (named c.args.target.now) v) (on_target c.args.guarded (view c.in_ok-at.at)) (c.in_err-found.ensures inputs level)))
 
 pub slice-returns : goal.slice-returns
 unfolding on_start on_end
@@ -113,10 +108,9 @@ slice-returns t c = λ inputs level.
     let go : Tree → Run Item = λ u. run c.args.self.now inputs level u v in
     let ends = go (named c.args.to.now) in
     let targets = go (named c.args.target.now) in
-    answers-bind c.part_at.result (go (named c.args.from.now)) (plain (view c.in_ok-start.start)) (on_start c.args.guarded ends targets) (c.in_ok-start.ensures inputs level)
-    (answers-bind c.part_at.result ends (plain (view c.in_ok-end.end)) (on_end c.args.guarded targets (view c.in_ok-start.start)) (c.in_ok-end.ensures inputs level)
-    (subst (λ (k : Value). Answers c.part_at.result (bind targets (on_target c.args.guarded k))) c.in_ok-bounds.ensures
-    (answers-bind c.part_at.result targets (plain (view c.in_ok-found.found)) (on_target c.args.guarded (view c.in_ok-bounds.bounds)) (c.in_ok-found.ensures inputs level) c.part_at.ensures)))
+    answers-bind c.field.result (go (named c.args.from.now)) (plain (view c.in_ok-start.start)) (on_start c.args.guarded ends targets) (c.in_ok-start.ensures inputs level)
+    (answers-bind c.field.result ends (plain (view c.in_ok-end.end)) (on_end c.args.guarded targets (view c.in_ok-start.start)) (c.in_ok-end.ensures inputs level)
+    (subst (λ (k : Value). Answers c.field.result (bind targets (on_target c.args.guarded k))) c.in_ok-bounds.ensures (c.field.ensures inputs level)))
 
 pub slice-returns-in_err-start : goal.slice-returns-in_err-start
 slice-returns-in_err-start t c = λ inputs level.
@@ -138,19 +132,6 @@ slice-returns-in_err-end t c = λ inputs level.
     stops c.from_residual-in_err-end.result s _ c.from_residual-in_err-end.ensures.1
     (ends-after s (go (named c.args.from.now)) (plain (view c.in_ok-start.start)) (on_start c.args.guarded ends targets) (c.in_ok-start.ensures inputs level)
     (ends-bind s ends (on_end c.args.guarded targets (view c.in_ok-start.start)) (c.in_err-end.ensures inputs level)))
-
-pub slice-returns-in_err-found : goal.slice-returns-in_err-found
-unfolding on_start on_end
-slice-returns-in_err-found t c = λ inputs level.
-    let v = plain (view c.args.value.now) in
-    let go : Tree → Run Item = λ u. run c.args.self.now inputs level u v in
-    let ends = go (named c.args.to.now) in
-    let targets = go (named c.args.target.now) in
-    let s = c.in_err-found.field-0.0 in
-    stops c.from_residual-in_err-found.result s _ c.from_residual-in_err-found.ensures.1
-    (ends-after s (go (named c.args.from.now)) (plain (view c.in_ok-start.start)) (on_start c.args.guarded ends targets) (c.in_ok-start.ensures inputs level)
-    (ends-after s ends (plain (view c.in_ok-end.end)) (on_end c.args.guarded targets (view c.in_ok-start.start)) (c.in_ok-end.ensures inputs level)
-    (ends-bind s targets (on_target c.args.guarded (slice_key (view c.in_ok-start.start) (view c.in_ok-end.end))) (c.in_err-found.ensures inputs level))))
 
 -- ---- values of parts
 
