@@ -1,11 +1,11 @@
--- The run of a comparison of the input, or of `type`, with a constant.
+-- The run of a comparison of `type` with a constant.
 use Rattle.std.proofs.Common.{◌≡◌, ◌∙◌, ℕ, [], Bool, Option, Some, None, IfSome, Ok, codes, refl, sym, ap}
 use Rattle.jv_data.specs.Value.{Value, boolean, string}
 use Rattle.jv_data.proofs.shared.Levels.{view-Bool}
 use Rattle.jv_data.specs.Kind.{kind_name}
 use Rattle.jv_data.specs.declared.values.Val as val
 use Rattle.jq_natives.specs.Answers.{yes_or_no}
-use Rattle.jq_tree.specs.Tree.{Name, Operator, Literal, Tree, binary, call, identity, literal, no_trees}
+use Rattle.jq_tree.specs.Tree.{Name, Operator, Literal, Tree, binary, call, literal, no_trees}
 use Rattle.jq_meaning.specs.Builtins.{builtin_named}
 use Rattle.jq_meaning.specs.Continuations.{value_of_literal, on_left, on_right}
 use Rattle.jq_meaning.specs.Env.{find_callee, no_callee}
@@ -34,17 +34,10 @@ kind_run : (p : Context) (inputs : Run Value) (level : ℕ) (n : Name) (v : Valu
 kind_run p inputs level n v e h =
     builtin_runs p inputs level n [] (builtin_named n 0) (plain v) (sym h) refl ∙ ap (λ m. builtin_in p inputs level (builtin_named m 0) no_trees (plain v)) e
 
-pub input_told : (p : Context) (op : Operator) (t u : Tree) (l : Literal) (v : Value) (r : Option Bool) → t ≡ identity → u ≡ literal l
-    → IfSome r (λ b. operator_of op v (value_of_literal l) ≡ yes_or_no b) → IfSome r (λ b. RunsTo p (binary op t u) v (Ok (val.Bool b)))
-input_told p op t u l v None e f h = tt
-input_told p op t u l v (Some b) e f h = λ inputs level.
-    ap (λ z. run p inputs level (binary op t z) (plain v)) f ∙ ap (λ z. run p inputs level (binary op z (literal l)) (plain v)) e
-    ∙ told p inputs level op identity l v v b refl h ∙ ap (λ (w : Value). one (plain w)) (sym (view-Bool b))
-
-pub kind_told : (p : Context) (op : Operator) (t : Tree) (n : Name) (l : Literal) (v : Value) (r : Option Bool) → t ≡ call n no_trees → n ≡ codes "type"
+pub kind_told : (p : Context) (op : Operator) (t u : Tree) (n : Name) (l : Literal) (v : Value) (r : Option Bool) → t ≡ call n no_trees → u ≡ literal l → n ≡ codes "type"
     → ((inputs : Run Value) → find_callee n 0 (scope_env inputs p.scope.now) ≡ no_callee)
-    → IfSome r (λ b. operator_of op (string (kind_name v)) (value_of_literal l) ≡ yes_or_no b) → IfSome r (λ b. RunsTo p (binary op t (literal l)) v (Ok (val.Bool b)))
-kind_told p op t n l v None e f g h = tt
-kind_told p op t n l v (Some b) e f g h = λ inputs level.
-    ap (λ z. run p inputs level (binary op z (literal l)) (plain v)) e
+    → IfSome r (λ b. operator_of op (string (kind_name v)) (value_of_literal l) ≡ yes_or_no b) → IfSome r (λ b. RunsTo p (binary op t u) v (Ok (val.Bool b)))
+kind_told p op t u n l v None e d f g h = tt
+kind_told p op t u n l v (Some b) e d f g h = λ inputs level.
+    ap (λ z. run p inputs level (binary op t z) (plain v)) d ∙ ap (λ z. run p inputs level (binary op z (literal l)) (plain v)) e
     ∙ told p inputs level op (call n no_trees) l v (string (kind_name v)) b (kind_run p inputs level n v f (g inputs)) h ∙ ap (λ (w : Value). one (plain w)) (sym (view-Bool b))

@@ -1,5 +1,5 @@
-// Comparisons of the input, or of the name of its kind, with a constant. Nothing is copied for them.
-ghost use Rattle.std.specs.Prelude.{◌≡◌, codes, IfSome, IsTrue, List, Ok};
+// Comparisons of the name of a value's kind with a constant. No text is made for them.
+ghost use Rattle.std.specs.Prelude.{◌≡◌, codes, IfSome, IsTrue, Ok};
 ghost use Rattle.jv_data.specs.Kind.{kind_name};
 ghost use Rattle.jv_data.specs.Shared.{text_in};
 ghost use Rattle.jv_data.specs.View.{view};
@@ -10,24 +10,20 @@ ghost use Rattle.jq_ast.specs.Named.{name_of, named};
 ghost use Rattle.jq_tree.specs.Tree as form;
 ghost use Rattle.jq_meaning.specs.Continuations.{value_of_literal};
 ghost use Rattle.jq_meaning.specs.Env as meaning;
-ghost use Rattle.jq_meaning.specs.Env.{Env};
 ghost use Rattle.jq_meaning.specs.Runs.{Run};
 ghost use Rattle.jq_meaning.specs.Steps as steps;
 ghost use Rattle.jq_natives.specs.Answers.{is_same, yes_or_no};
-ghost use Rattle.jq_operations.specs.Callees.{callee_in};
 ghost use Rattle.jq_single.specs.private.Parts.{RunsTo};
 ghost use Rattle.jq_single.specs.private.Scopes.{scope_env};
 
 use crate::contexts::Context;
-use crate::finding::argument_of;
+use crate::finding::{Found, callee_of};
 use crate::scopes::Scope;
 use jq_ast::{Literal, Name, Operator, Tree};
-use jq_operations::{Callee, find_callee};
-use jq_state::names::is_function;
-use jv_data::{SharedText, Val, kind_name, order};
+use jv_data::{SharedText, Val, kind_name};
 
 impl<'s> Context<'s> {
-    /// The result of an operator, if it compares the input, or `type`, with a constant.
+    /// The result of an operator, if it compares `type` with a constant.
     #[inline(never)]
     pub(crate) fn compared(
         &self,
@@ -41,22 +37,6 @@ impl<'s> Context<'s> {
         let Tree::Literal(constant) = right else {
             return None;
         };
-        match left {
-            Tree::Identity => told(operator, value, constant_of(constant)),
-            _ => self.compared_kind(operator, left, constant, value),
-        }
-    }
-
-    // The same of `type`.
-    fn compared_kind(
-        &self,
-        operator: Operator,
-        left: &Tree,
-        constant: &Literal,
-        value: &Val,
-    ) -> Option<bool>
-        ensures { IfSome result (λ b. RunsTo self.now (form.binary (operator_of operator) (named left.now) (form.literal (literal_of constant.now))) (view value.now) (Ok (val.Bool b))) }
-    {
         let Some(name) = name_alone(left) else {
             return None;
         };
@@ -101,52 +81,13 @@ fn is_type(scope: &Scope<'_>, name: &Name) -> bool
 fn is_unbound(scope: &Scope<'_>, name: &Name) -> bool
     ensures { IsTrue result → (inputs : Run Value) → meaning.find_callee (name_of name.now) 0 (scope_env inputs scope.now) ≡ meaning.no_callee }
 {
-    match scope {
-        Scope::Run(outside) => is_free(find_callee(outside.nodes, name, 0, outside.env)),
-        Scope::Value(outer, _, _) => is_unbound(outer, name),
-        Scope::Function(outer, function) => {
-            if is_function(function, name, 0) {
-                false
-            } else {
-                is_unbound(outer, name)
-            }
-        }
-        Scope::Call(own, function, arguments, _) => {
-            let parameters = function.parameters.as_slice();
-            match argument_of(parameters, arguments.as_slice(), name, None) {
-                Some(_) => false,
-                None => is_unbound(own, name),
-            }
-        }
-    }
-}
-
-// That a call finds nothing.
-fn is_free(callee: Callee<'_>) -> bool
-    ensures { IsTrue result → (envs : List Env) → callee_in envs callee.entry ≡ meaning.no_callee }
-{
-    match callee {
-        Callee::NoCallee => true,
+    match callee_of(scope, name, 0) {
+        Found::Nothing => true,
         _ => false,
     }
 }
 
-// The result of an operator on two values, if it compares them.
-fn told(operator: Operator, left: &Val, right: &Val) -> Option<bool>
-    ensures { IfSome result (λ b. steps.operator_of (operator_of operator) (view left.now) (view right.now) ≡ yes_or_no b) }
-{
-    match operator {
-        Operator::Equal => Some(order(left, right).is_eq()),
-        Operator::NotEqual => Some(order(left, right).is_ne()),
-        Operator::Less => Some(order(left, right).is_lt()),
-        Operator::LessOrEqual => Some(order(left, right).is_le()),
-        Operator::Greater => Some(order(left, right).is_gt()),
-        Operator::GreaterOrEqual => Some(order(left, right).is_ge()),
-        _ => None,
-    }
-}
-
-// The same of the name of a value's kind and a text, if it is `==` or `!=`.
+// The result of an operator on the name of a value's kind and a text, if it is `==` or `!=`.
 fn kind_told(operator: Operator, value: &Val, right: &Val) -> Option<bool>
     ensures { IfSome result (λ b. steps.operator_of (operator_of operator) (string (kind_name (view value.now))) (view right.now) ≡ yes_or_no b) }
 {
