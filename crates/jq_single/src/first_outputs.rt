@@ -3,7 +3,7 @@ ghost use Rattle.jv_data.specs.View.{view};
 ghost use Rattle.jq_ast.specs.Named.{named};
 ghost use Rattle.jq_tree.specs.Tree as form;
 ghost use Rattle.jq_single.specs.Single.{Keeps};
-ghost use Rattle.jq_single.specs.private.FirstOutputs.{ChangesToFirst, FirstOf};
+ghost use Rattle.jq_single.specs.private.FirstOutputs.{ChangesToFirst};
 
 use crate::contexts::Context;
 use crate::stops::Stop;
@@ -18,44 +18,39 @@ impl<'s> Context<'s> {
         ensures keeps { Keeps result (view value.old) (view value.new) }
     {
         match tree {
-            Tree::Comma(_, _) => match self.get_first(tree, value) {
-                Ok(output) => {
-                    *value = output;
-                    Ok(())
-                }
-                Err(stop) => Err(stop),
-            },
+            Tree::Comma(left, right) => self.change_first_of_two(left, right, value),
             _ => self.change(tree, value),
         }
     }
 
-    // The same on a value that is kept. Filters other than `f, g` are run at once only if they have at most one output.
-    #[cycle(single)]
-    fn get_first(&self, tree: &'s Tree, value: &Val) -> Result<Val, Stop>
-        ensures { FirstOf self.now (named tree.now) (view value.now) result }
-    {
-        match tree {
-            Tree::Comma(left, right) => self.first_of_two(left, right, value),
-            _ => self.get(tree, value),
-        }
-    }
-
-    // `f, g`: the first output of `g` counts if `f` has none.
+    // `f, g`: the first output of `g` counts if `f` has none, so `f` changes a copy. Filters other than `f, g` are run at once only
+    // if they have at most one output.
     #[cycle(single)]
     #[inline(never)]
-    fn first_of_two(&self, left: &'s Tree, right: &'s Tree, value: &Val) -> Result<Val, Stop>
-        ensures { FirstOf self.now (form.comma (named left.now) (named right.now)) (view value.now) result }
+    fn change_first_of_two(
+        &self,
+        left: &'s Tree,
+        right: &'s Tree,
+        value: &mut Val,
+    ) -> Result<(), Stop>
+        ensures runs { ChangesToFirst self.now (form.comma (named left.now) (named right.now)) (view value.old) (view value.new) result }
+        ensures keeps { Keeps result (view value.old) (view value.new) }
     {
         if self.fuel == 0 {
             return Err(Stop::Unknown);
         }
         let inside = Context {
             fuel: self.fuel - 1,
+            kept: true,
             ..*self
         };
-        match inside.get_first(left, value) {
-            Ok(output) => Ok(output),
-            Err(Stop::Nothing) => inside.get_first(right, value),
+        let mut output = value.copy()?;
+        match inside.change_first(left, &mut output) {
+            Ok(()) => {
+                *value = output;
+                Ok(())
+            }
+            Err(Stop::Nothing) => inside.change_first(right, value),
             Err(Stop::Raised(error)) => Err(Stop::Raised(error)),
             Err(Stop::NoMemory) => Err(Stop::NoMemory),
             Err(Stop::Unknown) => Err(Stop::Unknown),

@@ -37,12 +37,13 @@ use Rattle.jq_single.specs.private.Updates.{listed, part_run, path_run}
 use Rattle.jq_meaning.specs.laws.Updating.{turn_of, turns}
 use Rattle.jq_single.specs.private.Parts.{Answers, Calls, ChangesTo, builtin_in, run}
 use Rattle.jq_single.specs.Single.{Changed, Ends}
+use Rattle.jq_single.specs.private.FirstOutputs.{first_alone}
 use Rattle.jq_single.proofs.Binding.{bind-known, ends-bind, ends-after, answers-bind, changed-bind, changed-stops, goes-changed, keeps-stops, leaves_same, stops, untold, and_goes, and_stops, or_goes, or_stops, truth_of, caught, with_variable, text-bind, text-stops}
 use Rattle.jq_single.specs.declared.rests.Rest.{Rest}
 use Rattle.jq_single.specs.declared.rests.Rest.TheVariants as rest
 use Rattle.jq_single.proofs.Gathered.{gathers-none, gathers-then, gathers-fail, gathers_all, gives_first, stops_first, stops-then, gathered_list, ends_gathered, bound_rest, picks_holds, picks_fails}
 use Rattle.jq_single.proofs.Folded.{fold_value, turned, fold_ends, single_fold}
-use Rattle.jq_single.proofs.FirstOutputs.{answers-first, changed-first, first-then}
+use Rattle.jq_single.proofs.FirstOutputs.{changed-first, first-then}
 use Rattle.jq_single.proofs.Sets.{changed-prop}
 use Rattle.jq_single.proofs.UpdateTurns.{getpath_keys, known_paths, listed_more, modify_tree, turn_lists, turn_raises, turn_sets, two_calls_deep}
 use Rattle.jq_single.proofs.Located.{path_given, paths-rest}
@@ -937,32 +938,31 @@ pub change_first-returns-in_default-clause-runs : goal.change_first-returns-in_d
 change_first-returns-in_default-clause-runs t c = λ inputs level.
     changed-first c.change.result (view c.change.new.value) (run c.args.self.now inputs level (named c.args.tree.now) (plain (view c.args.value.now))) (c.change.ensures.runs inputs level)
 
-pub change_first-returns-in-Err-clause-keeps : goal.change_first-returns-in-Err-clause-keeps
-change_first-returns-in-Err-clause-keeps t c = leaves_same c.in-Err.stop (view c.args.value.now)
+pub change_first_of_two-returns-in-Ok-clause-runs : goal.change_first_of_two-returns-in-Ok-clause-runs
+change_first_of_two-returns-in-Ok-clause-runs t c = λ inputs level.
+    let go : Value → Tree → Run Item = λ w u. run c.args.self.now inputs level u (plain w) in
+    let l = named c.args.left.now in
+    let r = go (view c.args.value.now) (named c.args.right.now) in
+    first-then (go (view c.args.value.now) l) r (one (plain (view c.change_first.new.value)))
+    (subst (λ (w : Value). first_alone (go w l) ≡ one (plain (view c.change_first.new.value))) c.in_ok-output.ensures (c.in-Ok.ensures.runs inputs level))
 
-pub get_first-returns-in_default : goal.get_first-returns-in_default
-get_first-returns-in_default t c = λ inputs level.
-    answers-first c.get.result (run c.args.self.now inputs level (named c.args.tree.now) (plain (view c.args.value.now))) (c.get.ensures inputs level)
+pub change_first_of_two-returns-in-Err-Nothing-clause-runs : goal.change_first_of_two-returns-in-Err-Nothing-clause-runs
+change_first_of_two-returns-in-Err-Nothing-clause-runs t c = λ inputs level.
+    let go : Value → Tree → Run Item = λ w u. run c.args.self.now inputs level u (plain w) in
+    let l = named c.args.left.now in
+    let r = go (view c.args.value.now) (named c.args.right.now) in
+    subst (Changed c.change_first-in-Err-Nothing.result (view c.change_first-in-Err-Nothing.new.value))
+    (sym (first-then (go (view c.args.value.now) l) r none
+    (subst (λ (w : Value). first_alone (go w l) ≡ none) c.in_ok-output.ensures ((rw c.in-Err-Nothing.field-0-is at c.in-Err-Nothing.ensures.runs) inputs level))))
+    (c.change_first-in-Err-Nothing.ensures.runs inputs level)
 
-pub first_of_two-returns-in-Ok : goal.first_of_two-returns-in-Ok
-first_of_two-returns-in-Ok t c = λ inputs level.
-    let v = plain (view c.args.value.now) in
-    let go : Tree → Run Item = λ u. run c.args.self.now inputs level u v in
-    first-then (go (named c.args.left.now)) (go (named c.args.right.now)) (one (plain (view c.in-Ok.output))) (c.in-Ok.ensures inputs level)
-
-pub first_of_two-returns-in-Err-Nothing : goal.first_of_two-returns-in-Err-Nothing
-first_of_two-returns-in-Err-Nothing t c = λ inputs level.
-    let v = plain (view c.args.value.now) in
-    let go : Tree → Run Item = λ u. run c.args.self.now inputs level u v in
-    subst (Answers c.get_first-in-Err-Nothing.result)
-    (sym (first-then (go (named c.args.left.now)) (go (named c.args.right.now)) none ((rw c.in-Err-Nothing.field-0-is at c.in-Err-Nothing.ensures) inputs level)))
-    (c.get_first-in-Err-Nothing.ensures inputs level)
-
-pub first_of_two-returns-in-Err-Raised : goal.first_of_two-returns-in-Err-Raised
-first_of_two-returns-in-Err-Raised t c = λ inputs level.
-    let v = plain (view c.args.value.now) in
-    let go : Tree → Run Item = λ u. run c.args.self.now inputs level u v in
-    first-then (go (named c.args.left.now)) (go (named c.args.right.now)) (fail (view c.in-Err-Raised.error)) ((rw c.in-Err-Raised.field-0-is at c.in-Err-Raised.ensures) inputs level)
+pub change_first_of_two-returns-in-Err-Raised-clause-runs : goal.change_first_of_two-returns-in-Err-Raised-clause-runs
+change_first_of_two-returns-in-Err-Raised-clause-runs t c = λ inputs level.
+    let go : Value → Tree → Run Item = λ w u. run c.args.self.now inputs level u (plain w) in
+    let l = named c.args.left.now in
+    let r = go (view c.args.value.now) (named c.args.right.now) in
+    first-then (go (view c.args.value.now) l) r (fail (view c.in-Err-Raised.error))
+    (subst (λ (w : Value). first_alone (go w l) ≡ fail (view c.in-Err-Raised.error)) c.in_ok-output.ensures ((rw c.in-Err-Raised.field-0-is at c.in-Err-Raised.ensures.runs) inputs level))
 
 -- ---- updates
 

@@ -175,11 +175,8 @@ decreases-change_part l = 32 * l.self.now.fuel + 6
 abbrev pub decreases-change_first : goal.decreases-change_first
 decreases-change_first l = 32 * l.self.now.fuel + 4
 
-abbrev pub decreases-get_first : goal.decreases-get_first
-decreases-get_first l = 32 * l.self.now.fuel + 3
-
-abbrev pub decreases-first_of_two : goal.decreases-first_of_two
-decreases-first_of_two l = 32 * l.self.now.fuel + 2
+abbrev pub decreases-change_first_of_two : goal.decreases-change_first_of_two
+decreases-change_first_of_two l = 32 * l.self.now.fuel + 2
 
 abbrev pub decreases-gather : goal.decreases-gather
 decreases-gather l = 32 * l.self.now.fuel
