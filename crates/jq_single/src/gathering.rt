@@ -1,26 +1,39 @@
-// The outputs of a filter, each passed on to the rest of the filter.
-ghost use Rattle.std.specs.Prelude.{map};
+// The outputs of a filter, each passed on to the rest of the filter: paths, and the numbers of `range(f; g)`, too. No list of them is kept.
+ghost use Rattle.std.specs.Prelude.{map, ◌≡◌, ◌++◌, ◌∷◌, [], MatchOption, OnOk, ℕ, List, IfOk, pos};
 ghost use Rattle.jq_ast.specs.Named.{named, named_as_pattern};
 ghost use Rattle.jq_tree.specs.Tree.{trees_of};
-ghost use Rattle.jq_tree.specs.Tree as form;
 ghost use Rattle.jq_operations.specs.Language.{meaning_of};
 ghost use Rattle.jq_state.specs.Items.{item_of};
 ghost use Rattle.jq_operations.specs.Entering.{defined};
-ghost use Rattle.jq_single.specs.private.Gathering.{GathersBelow, GathersBuiltin, GathersOf};
+ghost use Rattle.jq_single.specs.private.Gathering.{GathersBelow, GathersBuiltin, GathersOf, Gathers, GathersRun, given_of, made, numbers_from};
 ghost use Rattle.jq_single.specs.private.Parts.{Calls};
+ghost use Rattle.jv_data.specs.Value.{Value};
+ghost use Rattle.jv_data.specs.View.{view};
+ghost use Rattle.jq_meaning.specs.machine.Operations.{path_item, result_of};
+ghost use Rattle.jq_state.specs.Steps.{operation_of};
+ghost use Rattle.jq_meaning.specs.Runs.{Run, before, none, one, value_in, located, plain};
+ghost use Rattle.jq_operations.specs.Outputs.{outputs_of};
+ghost use Rattle.jq_single.specs.Single.{Ends};
+ghost use Rattle.jq_ast.specs.Leaves.{key_of};
+ghost use Rattle.jq_meaning.specs.Builtins.{numbers_up_to};
+ghost use Rattle.jq_tree.specs.Tree as form;
+ghost use Rattle.jq_meaning.specs.Runs as runs;
+ghost use Rattle.jq_meaning.specs.Builtins as meaning;
 
-use crate::calling::scope_of_call;
+use crate::changing::scope_of_call;
 use crate::contexts::Context;
 use crate::finding::Found;
-use crate::giving::ended;
 use crate::rests::Rest;
 use crate::scopes::Scope;
 use crate::stops::Stop;
-use jq_ast::{Function, Pattern, Tree};
+use jq_ast::{Function, Key, Pattern, Tree};
 use jq_natives::truth;
-use jq_operations::Builtin;
-use jq_state::items::Item;
-use jv_data::Val;
+use jq_operations::{Builtin, Outputs, run};
+use jq_state::items::{Item, Path};
+use jq_state::numbers::{is_before, number_after};
+use jq_state::steps::Operation;
+use jv_data::{NoMemory, Val};
+use std::alloc::Global;
 
 impl<'s> Context<'s> {
     /// Runs a filter in a scope, and the rest on each of its outputs. The values at the end are added to a list.
@@ -299,4 +312,316 @@ impl<'s> Context<'s> {
             },
         }
     }
+}
+
+impl<'s> Context<'s> {
+    /// Runs the rest of the filter on an output.
+    #[cycle(single)]
+    pub(crate) fn give(&self, item: Item, rest: &Rest<'s>, into: &mut Vec<Val>) -> Result<(), Stop>
+        ensures { GathersRun (one (item_of item)) rest.now result into.old.items into.new.items }
+    {
+        match rest {
+            Rest::End(most) => {
+                if into.len() >= *most {
+                    return Err(Stop::Unknown);
+                }
+                Ok(add(into, item)?)
+            }
+            Rest::Then(tree, context, later) => {
+                let inside = Context {
+                    scope: context.scope,
+                    depth: context.depth,
+                    kept: true,
+                    ..*self
+                };
+                inside.gather(*tree, &item, *later, into)
+            }
+            Rest::Bind(name, body, context, input, later) => {
+                let scope = Scope::Value(&*context.scope, &**name, &item.value);
+                let inside = Context {
+                    scope: &scope,
+                    depth: context.depth,
+                    kept: true,
+                    ..*self
+                };
+                inside.gather(&**body, *input, &**later, into)
+            }
+            Rest::Field(key, guarded, later) => {
+                self.give_step(Operation::Field(*key, *guarded), item, *later, into)
+            }
+            Rest::At(key, guarded, later) => {
+                let key = key.copy()?;
+                self.give_step(Operation::PartAtKey(*guarded, key), item, *later, into)
+            }
+            Rest::Parts(guarded, later) => {
+                self.give_step(Operation::EveryPart(*guarded), item, *later, into)
+            }
+            Rest::Path(later) => self.give_path(item, *later, into),
+            Rest::Fold(name, update, context) => {
+                self.turn(*name, *update, *context, &item.value, into)
+            }
+        }
+    }
+
+    // Takes a step, and runs the rest on where it leads to.
+    #[cycle(single)]
+    #[inline(never)]
+    fn give_step(
+        &self,
+        operation: Operation<'_>,
+        item: Item,
+        later: &Rest<'s>,
+        into: &mut Vec<Val>,
+    ) -> Result<(), Stop>
+        ensures { GathersRun (result_of (operation_of operation.entry) (item_of item)) later.now result into.old.items into.new.items }
+    {
+        if self.fuel == 0 {
+            return Err(Stop::Unknown);
+        }
+        let inside = Context {
+            fuel: self.fuel - 1,
+            ..*self
+        };
+        let outputs = run(self.alloc, operation, item)?;
+        inside.give_outputs(outputs, later, into)
+    }
+
+    // Runs the rest of the filter on the path of an item.
+    #[cycle(single)]
+    #[inline(never)]
+    fn give_path(&self, item: Item, later: &Rest<'s>, into: &mut Vec<Val>) -> Result<(), Stop>
+        ensures { GathersRun (path_item (item_of item)) later.now result into.old.items into.new.items }
+    {
+        if self.fuel == 0 {
+            return Err(Stop::Unknown);
+        }
+        let inside = Context {
+            fuel: self.fuel - 1,
+            ..*self
+        };
+        let path = Item::plain(item.into_path(self.alloc)?);
+        inside.give(path, later, into)
+    }
+
+    // Runs the rest of the filter on the outputs of a step.
+    #[cycle(single)]
+    fn give_outputs(
+        &self,
+        outputs: Outputs,
+        rest: &Rest<'s>,
+        into: &mut Vec<Val>,
+    ) -> Result<(), Stop>
+        ensures { GathersRun (outputs_of outputs) rest.now result into.old.items into.new.items }
+    {
+        match outputs {
+            Outputs::Nothing => Ok(()),
+            Outputs::One(item) => self.give(item, rest, into),
+            Outputs::Several(items) => self.give_several(items, rest, into),
+            // A step never makes numbers of a range.
+            Outputs::Numbers(_, _, _) => Err(Stop::Unknown),
+            Outputs::Error(error) => Err(Stop::Raised(error)),
+            // Nor does it halt.
+            Outputs::Stopped(_) => Err(Stop::Unknown),
+        }
+    }
+
+    // Runs the rest of the filter on several items, which are in a vector with the last one first.
+    #[cycle(single)]
+    fn give_several(
+        &self,
+        mut items: Vec<Item>,
+        rest: &Rest<'s>,
+        into: &mut Vec<Val>,
+    ) -> Result<(), Stop>
+        ensures { GathersRun (given_of items.items) rest.now result into.old.items into.new.items }
+    {
+        while let Some(item) = take_last(&mut items) {
+            match self.give(item, rest, into) {
+                Ok(()) => {}
+                Err(stop) => return Err(stop),
+            }
+        }
+        Ok(())
+    }
+}
+
+// Adds the value of an item to a list.
+fn add(into: &mut Vec<Val>, item: Item) -> Result<(), NoMemory>
+    ensures { OnOk result (map view into.new.items ≡ map view into.old.items ++ value_in (item_of item) ∷ []) }
+{
+    into.push(item.value)?;
+    Ok(())
+}
+
+/// A run without output has ended, or ends with an error, whatever the rest of the filter is.
+pub(crate) fn ended(stop: Stop) -> Result<(), Stop>
+    ensures { (inputs : Run Value) (level : ℕ) (later : Rest) (r : Run runs.Item) (xs : List Val) → Ends stop r → Gathers (made inputs level later) result xs xs r }
+{
+    match stop {
+        Stop::Nothing => Ok(()),
+        Stop::Raised(error) => Err(Stop::Raised(error)),
+        Stop::NoMemory => Err(Stop::NoMemory),
+        Stop::Unknown => Err(Stop::Unknown),
+    }
+}
+
+// Takes the first item, which is the last element of the vector.
+fn take_last(items: &mut Vec<Item>) -> Option<Item>
+    ensures { MatchOption result (given_of items.old.items ≡ none) (λ x. given_of items.old.items ≡ before (item_of x ∷ []) (given_of items.new.items)) }
+{
+    match items.pop() {
+        Some(item) => Some(item),
+        None => None,
+    }
+}
+
+impl<'s> Context<'s> {
+    /// `f.a` on an item with a path.
+    #[cycle(single)]
+    #[inline(never)]
+    pub(crate) fn gather_field(
+        &self,
+        target: &'s Tree,
+        key: &'s Key,
+        guarded: bool,
+        item: &Item,
+        rest: &Rest<'s>,
+        into: &mut Vec<Val>,
+    ) -> Result<(), Stop>
+        ensures { GathersOf self.now (form.field (named target.now) (key_of key.now) guarded) (item_of item.now) rest.now result into.old.items into.new.items }
+    {
+        let next = Rest::Field(&*key, guarded, &*rest);
+        (&*self).gather(&*target, item, &next, into)
+    }
+
+    /// `f[g]` on an item with a path: the key is run first.
+    #[cycle(single)]
+    #[inline(never)]
+    pub(crate) fn gather_index(
+        &self,
+        target: &'s Tree,
+        key: &'s Tree,
+        guarded: bool,
+        item: &Item,
+        rest: &Rest<'s>,
+        into: &mut Vec<Val>,
+    ) -> Result<(), Stop>
+        ensures { GathersOf self.now (form.index (named target.now) (named key.now) guarded) (item_of item.now) rest.now result into.old.items into.new.items }
+    {
+        match self.get(key, &item.value) {
+            Ok(found) => {
+                let next = Rest::At(&found, guarded, &*rest);
+                (&*self).gather(&*target, item, &next, into)
+            }
+            Err(stop) => ended(stop),
+        }
+    }
+
+    /// `path(f)`.
+    #[cycle(single)]
+    #[inline(never)]
+    pub(crate) fn gather_paths(
+        &self,
+        arguments: &'s [Tree],
+        value: &Val,
+        rest: &Rest<'s>,
+        into: &mut Vec<Val>,
+    ) -> Result<(), Stop>
+        ensures { GathersBuiltin self.now meaning.paths (trees_of (map named arguments.now)) (plain (view value.now)) rest.now result into.old.items into.new.items }
+    {
+        match arguments {
+            [argument] => {
+                let start = start_at(self.alloc, value)?;
+                let next = Rest::Path(&*rest);
+                (&*self).gather(&*argument, &start, &next, into)
+            }
+            _ => Err(Stop::Unknown),
+        }
+    }
+}
+
+/// A value with an empty path.
+pub(crate) fn start_at(alloc: Global, value: &Val) -> Result<Item, NoMemory>
+    ensures { IfOk result (λ x. item_of x ≡ located (view value.now) []) }
+{
+    let value = value.copy()?;
+    let path = Path::empty(alloc)?;
+    Ok(Item { value, path })
+}
+
+impl<'s> Context<'s> {
+    /// `range(f; g)`, where f and g have at most one output.
+    #[cycle(single)]
+    #[inline(never)]
+    pub(crate) fn gather_range(
+        &self,
+        arguments: &'s [Tree],
+        value: &Val,
+        rest: &Rest<'s>,
+        into: &mut Vec<Val>,
+    ) -> Result<(), Stop>
+        ensures { GathersBuiltin self.now meaning.range (trees_of (map named arguments.now)) (plain (view value.now)) rest.now result into.old.items into.new.items }
+    {
+        match arguments {
+            [start, end] => match self.get(start, value) {
+                Ok(first) => match self.get(end, value) {
+                    Ok(last) => self.give_range(&first, &last, rest, into),
+                    Err(stop) => ended(stop),
+                },
+                Err(stop) => ended(stop),
+            },
+            _ => Err(Stop::Unknown),
+        }
+    }
+
+    // Runs the rest of the filter on each number between two values. If one of them is not a number, the machine runs the filter.
+    #[cycle(single)]
+    fn give_range(
+        &self,
+        start: &Val,
+        end: &Val,
+        rest: &Rest<'s>,
+        into: &mut Vec<Val>,
+    ) -> Result<(), Stop>
+        ensures { GathersRun (meaning.range_of (view start.now ∷ view end.now ∷ [])) rest.now result into.old.items into.new.items }
+    {
+        match (start, end) {
+            (Val::Num(start), Val::Num(end)) => self.give_numbers(*start, *end, rest, into),
+            _ => Err(Stop::Unknown),
+        }
+    }
+
+    // Runs the rest of the filter on each whole number from `first` up to but not including `end`.
+    #[cycle(single)]
+    fn give_numbers(
+        &self,
+        first: i64,
+        end: i64,
+        rest: &Rest<'s>,
+        into: &mut Vec<Val>,
+    ) -> Result<(), Stop>
+        ensures { GathersRun (numbers_up_to first end (pos 1)) rest.now result into.old.items into.new.items }
+    {
+        let mut next = Some(first);
+        while let Some(value) = take_number(&mut next, end) {
+            let item = Item::plain(value);
+            match self.give(item, rest, into) {
+                Ok(()) => {}
+                Err(stop) => return Err(stop),
+            }
+        }
+        Ok(())
+    }
+}
+
+// Takes the number out of `next` and puts in the one after it, if it is before `end`.
+fn take_number(next: &mut Option<i64>, end: i64) -> Option<Val>
+    ensures { MatchOption result (numbers_from next.old end ≡ none) (λ v. numbers_from next.old end ≡ before (plain (view v) ∷ []) (numbers_from next.new end)) }
+{
+    let number = (*next)?;
+    if !is_before(number, end, 1) {
+        return None;
+    }
+    *next = number_after(number, end, 1);
+    Some(Val::Num(number))
 }

@@ -1,16 +1,35 @@
-// The output of a filter on a value that is kept. Filters that may change their input replace a copy of it.
-ghost use Rattle.std.specs.Prelude.{◌≡◌, false};
+// The output of a filter on a value that is kept: forms that make a value from those of their parts, and copies that others change.
+ghost use Rattle.std.specs.Prelude.{◌≡◌, IfErr, IfNone, IfOk, IfSome, ℕ, List, []};
 ghost use Rattle.jv_data.specs.View.{view};
-ghost use Rattle.jq_ast.specs.Named.{named};
-ghost use Rattle.jq_single.specs.private.Parts.{RunsTo};
+ghost use Rattle.jq_ast.specs.Named.{named, name_of, named_entry};
+ghost use Rattle.jq_single.specs.private.Parts.{RunsTo, Answers, Follows, IsUntold};
+ghost use Rattle.jq_meaning.specs.Continuations.{on_target, negated, format_of, put_between, text_item};
+ghost use Rattle.jq_meaning.specs.Runs.{plain, Run, Item, alternative, one, bind};
+ghost use Rattle.jv_data.specs.Shared.{text_in};
+ghost use Rattle.jv_data.specs.Text.{text_of};
+ghost use Rattle.jv_text.specs.Formats.{Text};
+ghost use Rattle.jq_operations.specs.Outputs.{Inserts};
+ghost use Rattle.jq_operations.specs.Pieces.{named_pieces};
+ghost use Rattle.jq_single.specs.private.Making.{RunsPieces, TextAnswers, RunsEntries, RunsKeyed, RunsMember};
+ghost use Rattle.jv_data.specs.Held.{members_in};
+ghost use Rattle.jq_tree.specs.Tree.{more_entries};
+ghost use Rattle.jq_state.specs.Steps.{named_entries};
+ghost use Rattle.jq_tree.specs.Tree as form;
+ghost use Rattle.jq_meaning.specs.Continuations as next;
 
 use crate::contexts::Context;
 use crate::finding::value_of;
-use crate::stops::Stop;
-use crate::strings::get_format;
-use jq_ast::Tree;
-use jq_operations::literal;
-use jv_data::Val;
+use crate::rests::Rest;
+use crate::stops::{Stop, answer, refused};
+use jq_ast::{Entry, Name, Piece, Tree};
+use jq_natives::truth;
+use jq_operations::entries::with_member;
+use jq_operations::{Inserted, entry_key, key_error, literal, slice_key, text_in_format};
+use jq_state::items::Item;
+use jv_arith::neg;
+use jv_data::{Array, Fail, Object, SharedText, Val};
+use jv_value::index;
+use std::alloc::Global;
 
 impl<'s> Context<'s> {
     /// The output of a filter in a scope. It is unknown if the filter has a form that is not run at once, or is nested too deep.
@@ -94,5 +113,403 @@ impl<'s> Context<'s> {
             Ok(()) => Ok(output),
             Err(stop) => Err(stop),
         }
+    }
+}
+
+impl<'s> Context<'s> {
+    /// `f.a`, or the part of the output of a filter at a key that is known.
+    #[cycle(single)]
+    #[inline(never)]
+    pub(crate) fn field(
+        &self,
+        target: &'s Tree,
+        key: &Val,
+        guarded: bool,
+        value: &Val,
+    ) -> Result<Val, Stop>
+        ensures { Follows self.now (named target.now) (view value.now) (on_target guarded (view key.now)) result }
+    {
+        let found = self.get_part(target, value)?;
+        part_at(self.alloc, guarded, &found, key)
+    }
+
+    /// `f[g]`: the key is run first.
+    #[cycle(single)]
+    #[inline(never)]
+    pub(crate) fn index(
+        &self,
+        target: &'s Tree,
+        key: &'s Tree,
+        guarded: bool,
+        value: &Val,
+    ) -> Result<Val, Stop>
+        ensures { RunsTo self.now (form.index (named target.now) (named key.now) guarded) (view value.now) result }
+    {
+        let at = self.get_part(key, value)?;
+        self.field(target, &at, guarded, value)
+    }
+
+    /// `f[g:h]`: the start is run first, and then the end.
+    #[cycle(single)]
+    #[inline(never)]
+    pub(crate) fn slice(
+        &self,
+        target: &'s Tree,
+        from: &'s Tree,
+        to: &'s Tree,
+        guarded: bool,
+        value: &Val,
+    ) -> Result<Val, Stop>
+        ensures { RunsTo self.now (form.slice (named target.now) (named from.now) (named to.now) guarded) (view value.now) result }
+    {
+        let start = self.get(from, value)?;
+        let end = self.get(to, value)?;
+        let bounds = slice_key(self.alloc, start, end)?;
+        self.field(target, &bounds, guarded, value)
+    }
+}
+
+// The part of a value at a key.
+fn part_at(alloc: Global, guarded: bool, target: &Val, key: &Val) -> Result<Val, Stop>
+    ensures { Answers result (on_target guarded (view key.now) (plain (view target.now))) }
+{
+    match index(alloc, target, key) {
+        Ok(part) => Ok(part),
+        Err(Fail::Raised(error)) => Err(refused(guarded, error)),
+        Err(Fail::NoMemory) => Err(Stop::NoMemory),
+    }
+}
+
+impl<'s> Context<'s> {
+    /// `f | g`.
+    #[cycle(single)]
+    #[inline(never)]
+    pub(crate) fn pipe(&self, first: &'s Tree, second: &'s Tree, value: &Val) -> Result<Val, Stop>
+        ensures { RunsTo self.now (form.pipe (named first.now) (named second.now)) (view value.now) result }
+    {
+        let between = self.get(first, value)?;
+        self.get(second, &between)
+    }
+
+    /// `-f`.
+    #[cycle(single)]
+    #[inline(never)]
+    pub(crate) fn negation(&self, operand: &'s Tree, value: &Val) -> Result<Val, Stop>
+        ensures { RunsTo self.now (form.negation (named operand.now)) (view value.now) result }
+    {
+        let found = self.get(operand, value)?;
+        negative(self.alloc, &found)
+    }
+
+    /// `[f]`.
+    #[cycle(single)]
+    #[inline(never)]
+    pub(crate) fn array(&self, filter: &'s Tree, value: &Val) -> Result<Val, Stop>
+        ensures { RunsTo self.now (form.array (named filter.now)) (view value.now) result }
+    {
+        let mut items = Vec::new(self.alloc);
+        let input = Item::plain(value.copy()?);
+        let end = Rest::End(usize::MAX);
+        (&*self).gather(&*filter, &input, &end, &mut items)?;
+        Ok(Val::List(Array::from_vec(self.alloc, items)?))
+    }
+}
+
+// The number with the other sign.
+fn negative(alloc: Global, value: &Val) -> Result<Val, Stop>
+    ensures { Answers result (negated (plain (view value.now))) }
+{
+    answer(neg(alloc, value))
+}
+
+impl<'s> Context<'s> {
+    /// `f and g`.
+    #[cycle(single)]
+    #[inline(never)]
+    pub(crate) fn and(&self, left: &'s Tree, right: &'s Tree, value: &Val) -> Result<Val, Stop>
+        ensures { RunsTo self.now (form.conjunction (named left.now) (named right.now)) (view value.now) result }
+    {
+        let first = self.get(left, value)?;
+        if truth(&first) {
+            self.get_truth(right, value)
+        } else {
+            Ok(Val::Bool(false))
+        }
+    }
+
+    /// `f or g`.
+    #[cycle(single)]
+    #[inline(never)]
+    pub(crate) fn or(&self, left: &'s Tree, right: &'s Tree, value: &Val) -> Result<Val, Stop>
+        ensures { RunsTo self.now (form.disjunction (named left.now) (named right.now)) (view value.now) result }
+    {
+        let first = self.get(left, value)?;
+        if truth(&first) {
+            Ok(Val::Bool(true))
+        } else {
+            self.get_truth(right, value)
+        }
+    }
+
+    // Whether the output of a filter is neither null nor false.
+    #[cycle(single)]
+    fn get_truth(&self, tree: &'s Tree, value: &Val) -> Result<Val, Stop>
+        ensures { Follows self.now (named tree.now) (view value.now) next.truth result }
+    {
+        let output = self.get(tree, value)?;
+        Ok(Val::Bool(truth(&output)))
+    }
+
+    /// `f // g`.
+    #[cycle(single)]
+    #[inline(never)]
+    pub(crate) fn alternative(
+        &self,
+        left: &'s Tree,
+        right: &'s Tree,
+        value: &Val,
+    ) -> Result<Val, Stop>
+        ensures { RunsTo self.now (form.alternative (named left.now) (named right.now)) (view value.now) result }
+    {
+        match kept(self.get(left, value)) {
+            Ok(Some(found)) => Ok(found),
+            Ok(None) => self.get(right, value),
+            Err(stop) => Err(stop),
+        }
+    }
+
+    /// `try f catch g`.
+    #[cycle(single)]
+    #[inline(never)]
+    pub(crate) fn try_catch(
+        &self,
+        body: &'s Tree,
+        handler: &'s Tree,
+        value: &Val,
+    ) -> Result<Val, Stop>
+        ensures { RunsTo self.now (form.try_catch (named body.now) (named handler.now)) (view value.now) result }
+    {
+        match self.get(body, value) {
+            Ok(found) => Ok(found),
+            Err(Stop::Raised(error)) => self.get(handler, &error),
+            Err(Stop::Nothing) => Err(Stop::Nothing),
+            Err(Stop::NoMemory) => Err(Stop::NoMemory),
+            Err(Stop::Unknown) => Err(Stop::Unknown),
+        }
+    }
+}
+
+// The output of the left side of `//`, if it is kept. An error ends the left side.
+fn kept(found: Result<Val, Stop>) -> Result<Option<Val>, Stop>
+    ensures some { (r : Run Item) (g : Item → Run Item) (x : Item) → Answers found r → IfOk result (λ o. IfSome o (λ v. alternative r g x ≡ one (plain (view v)))) }
+    ensures none { (r : Run Item) (g : Item → Run Item) (x : Item) → Answers found r → IfOk result (λ o. IfNone o (alternative r g x ≡ g x)) }
+    ensures stop { IfErr result IsUntold }
+{
+    match found {
+        Ok(value) => {
+            if truth(&value) {
+                return Ok(Some(value));
+            }
+            Ok(None)
+        }
+        Err(Stop::Nothing) => Ok(None),
+        Err(Stop::Raised(_error)) => Ok(None),
+        Err(Stop::NoMemory) => Err(Stop::NoMemory),
+        Err(Stop::Unknown) => Err(Stop::Unknown),
+    }
+}
+
+impl<'s> Context<'s> {
+    /// `"a\(f)b"`, `@name "a\(f)b"`.
+    #[cycle(single)]
+    #[inline(never)]
+    pub(crate) fn text(
+        &self,
+        format: &Name,
+        pieces: &'s [Piece<Tree>],
+        last: &String,
+        value: &Val,
+    ) -> Result<Val, Stop>
+        ensures { RunsTo self.now (form.text (name_of format.now) (named_pieces pieces.now last.now)) (view value.now) result }
+    {
+        match self.pieces(format, pieces, last, value) {
+            Ok(text) => Ok(Val::Text(text)),
+            Err(stop) => Err(stop),
+        }
+    }
+
+    // The text of the remaining pieces.
+    #[cycle(single)]
+    fn pieces(
+        &self,
+        format: &Name,
+        pieces: &'s [Piece<Tree>],
+        last: &String,
+        value: &Val,
+    ) -> Result<SharedText, Stop>
+        ensures { RunsPieces self.now (name_of format.now) (named_pieces pieces.now last.now) (view value.now) result }
+    {
+        match pieces {
+            [] => {
+                let text = String::from_str(self.alloc, last.as_str())?;
+                Ok(SharedText::from_string(self.alloc, text)?)
+            }
+            [piece, later @ ..] => self.first_piece(format, piece, later, last, value),
+        }
+    }
+
+    // A piece, and those after it, which are run first.
+    #[cycle(single)]
+    #[inline(never)]
+    fn first_piece(
+        &self,
+        format: &Name,
+        piece: &'s Piece<Tree>,
+        later: &'s [Piece<Tree>],
+        last: &String,
+        value: &Val,
+    ) -> Result<SharedText, Stop>
+        ensures { RunsPieces self.now (name_of format.now) (form.more_pieces (text_of piece.now.before) (named piece.now.tree) (named_pieces later.now last.now)) (view value.now) result }
+    {
+        if self.fuel == 0 {
+            return Err(Stop::Unknown);
+        }
+        let inside = Context {
+            fuel: self.fuel - 1,
+            ..*self
+        };
+        let back = inside.pieces(format, later, last, value)?;
+        let found = self.get(&piece.tree, value)?;
+        let front = piece.before.as_str();
+        inserted(text_in_format(self.alloc, format, front, &found, back.as_str())?)
+    }
+}
+
+// A text between two others, or its error.
+fn inserted(text: Inserted) -> Result<SharedText, Stop>
+    ensures { (front back : List ℕ) (expected : Text) → Inserts front expected back text → TextAnswers result (put_between front back expected) }
+{
+    match text {
+        Inserted::Text(text) => Ok(text),
+        Inserted::Error(error) => Err(Stop::Raised(error)),
+    }
+}
+
+/// `@name`.
+pub(crate) fn get_format(alloc: Global, format: &Name, value: &Val) -> Result<Val, Stop>
+    ensures { Answers result (bind (put_between [] [] (format_of (name_of format.now) (view value.now))) text_item) }
+{
+    match inserted(text_in_format(alloc, format, "", value, "")?) {
+        Ok(text) => Ok(Val::Text(text)),
+        Err(stop) => Err(stop),
+    }
+}
+
+impl<'s> Context<'s> {
+    /// `{..}`. An entry that has a computed key and no value is not run at once.
+    #[cycle(single)]
+    #[inline(never)]
+    pub(crate) fn object(&self, entries: &'s [Entry<Tree>], value: &Val) -> Result<Val, Stop>
+        ensures { RunsTo self.now (form.object (named_entries entries.now)) (view value.now) result }
+    {
+        let made = Object::new(self.alloc)?;
+        self.entries(entries, made, value)
+    }
+
+    // The remaining entries of an object that is made so far.
+    #[cycle(single)]
+    fn entries(
+        &self,
+        entries: &'s [Entry<Tree>],
+        made: Object<Val>,
+        value: &Val,
+    ) -> Result<Val, Stop>
+        ensures { RunsEntries self.now (named_entries entries.now) (members_in made) (view value.now) result }
+    {
+        match entries {
+            [] => Ok(Val::Table(made)),
+            [entry, later @ ..] => self.entry(entry, later, made, value),
+        }
+    }
+
+    // An entry, and those after it.
+    #[cycle(single)]
+    fn entry(
+        &self,
+        entry: &'s Entry<Tree>,
+        later: &'s [Entry<Tree>],
+        made: Object<Val>,
+        value: &Val,
+    ) -> Result<Val, Stop>
+        ensures { RunsEntries self.now (more_entries (named_entry entry.now) (named_entries later.now)) (members_in made) (view value.now) result }
+    {
+        match entry {
+            Entry::Named(key, filter) => {
+                let key = entry_key(key)?;
+                self.member(&key, filter, later, made, value)
+            }
+            Entry::Computed(key, filter) => self.computed(key, filter, later, made, value),
+            Entry::Own(_) => Err(Stop::Unknown),
+        }
+    }
+
+    // An entry with a computed key, which is run first.
+    #[cycle(single)]
+    #[inline(never)]
+    fn computed(
+        &self,
+        key: &'s Tree,
+        filter: &'s Tree,
+        later: &'s [Entry<Tree>],
+        made: Object<Val>,
+        value: &Val,
+    ) -> Result<Val, Stop>
+        ensures { RunsEntries self.now (more_entries (form.computed (named key.now) (named filter.now)) (named_entries later.now)) (members_in made) (view value.now) result }
+    {
+        let found = self.get(key, value)?;
+        self.keyed(found, filter, later, made, value)
+    }
+
+    // The key of an entry is known. It must be a string.
+    #[cycle(single)]
+    fn keyed(
+        &self,
+        key: Val,
+        filter: &'s Tree,
+        later: &'s [Entry<Tree>],
+        made: Object<Val>,
+        value: &Val,
+    ) -> Result<Val, Stop>
+        ensures { RunsKeyed self.now (view key) (named filter.now) (named_entries later.now) (members_in made) (view value.now) result }
+    {
+        let Val::Text(_) = &key else {
+            return Err(Stop::Raised(key_error(self.alloc)?));
+        };
+        self.member(&key.into_text(), filter, later, made, value)
+    }
+
+    // An entry whose key is known.
+    #[cycle(single)]
+    #[inline(never)]
+    fn member(
+        &self,
+        key: &SharedText,
+        filter: &'s Tree,
+        later: &'s [Entry<Tree>],
+        made: Object<Val>,
+        value: &Val,
+    ) -> Result<Val, Stop>
+        ensures { RunsMember self.now (text_in key.now) (named filter.now) (named_entries later.now) (members_in made) (view value.now) result }
+    {
+        let found = self.get(filter, value)?;
+        let longer = with_member(self.alloc, made, key, found)?;
+        if self.fuel == 0 {
+            return Err(Stop::Unknown);
+        }
+        let inside = Context {
+            fuel: self.fuel - 1,
+            ..*self
+        };
+        inside.entries(later, longer, value)
     }
 }

@@ -1,4 +1,4 @@
-// Updates (`f |= g`): the paths of f are gathered once, and each part becomes the first output of g.
+// Updates (`f |= g`): the paths of f are gathered once, and each part becomes the first output of g, the only one that counts.
 ghost use Rattle.std.specs.Prelude.{◌≡◌, ◌++◌, ◌∷◌, [], IfErr, IfOk, IfSome, Ok, OnOk, map};
 ghost use Rattle.jv_data.specs.Value.{Value};
 ghost use Rattle.jv_data.specs.View.{view};
@@ -6,17 +6,18 @@ ghost use Rattle.jv_value.specs.GetPath.{getpath_of};
 ghost use Rattle.jq_natives.specs.declared.native.Native.TheVariants.{DelPaths, SetPath};
 ghost use Rattle.jq_ast.specs.Named.{name_of, named};
 ghost use Rattle.jq_tree.specs.Tree.{trees_of};
-ghost use Rattle.jq_tree.specs.Tree as form;
 ghost use Rattle.jq_meaning.specs.Builtins.{plain_native};
 ghost use Rattle.jq_single.specs.Single.{Changed, Keeps};
 ghost use Rattle.jq_single.specs.private.Parts.{ChangesTo, IsUntold};
 ghost use Rattle.jq_single.specs.private.Updates.{ChangesParts, FindsPaths, TakesTurn, TakesTurns, listed};
+ghost use Rattle.jq_single.specs.private.FirstOutputs.{ChangesToFirst};
+ghost use Rattle.jq_tree.specs.Tree as form;
 
-use crate::calling::call_on;
+use crate::changing::call_on;
 use crate::contexts::Context;
 use crate::finding::has_modify;
 use crate::folding::single_of;
-use crate::paths::start_at;
+use crate::gathering::start_at;
 use crate::rests::Rest;
 use crate::stops::{Stop, untold};
 use jq_ast::{Modify, Tree};
@@ -203,4 +204,52 @@ fn delete_listed(alloc: Global, value: &mut Val, without: Vec<Val>) -> Result<()
     }
     let paths = Val::List(Array::from_vec(alloc, without)?);
     call_on(alloc, Native::DelPaths, value, &[paths])
+}
+
+impl<'s> Context<'s> {
+    /// Replaces the value by the first output of a filter.
+    #[cycle(single)]
+    pub(crate) fn change_first(&self, tree: &'s Tree, value: &mut Val) -> Result<(), Stop>
+        ensures runs { ChangesToFirst self.now (named tree.now) (view value.old) (view value.new) result }
+        ensures keeps { Keeps result (view value.old) (view value.new) }
+    {
+        match tree {
+            Tree::Comma(left, right) => self.change_first_of_two(left, right, value),
+            _ => self.change(tree, value),
+        }
+    }
+
+    // `f, g`: the first output of `g` counts if `f` has none, so `f` changes a copy. Filters other than `f, g` are run at once only
+    // if they have at most one output.
+    #[cycle(single)]
+    #[inline(never)]
+    fn change_first_of_two(
+        &self,
+        left: &'s Tree,
+        right: &'s Tree,
+        value: &mut Val,
+    ) -> Result<(), Stop>
+        ensures runs { ChangesToFirst self.now (form.comma (named left.now) (named right.now)) (view value.old) (view value.new) result }
+        ensures keeps { Keeps result (view value.old) (view value.new) }
+    {
+        if self.fuel == 0 {
+            return Err(Stop::Unknown);
+        }
+        let inside = Context {
+            fuel: self.fuel - 1,
+            kept: true,
+            ..*self
+        };
+        let mut output = value.copy()?;
+        match inside.change_first(left, &mut output) {
+            Ok(()) => {
+                *value = output;
+                Ok(())
+            }
+            Err(Stop::Nothing) => inside.change_first(right, value),
+            Err(Stop::Raised(error)) => Err(Stop::Raised(error)),
+            Err(Stop::NoMemory) => Err(Stop::NoMemory),
+            Err(Stop::Unknown) => Err(Stop::Unknown),
+        }
+    }
 }

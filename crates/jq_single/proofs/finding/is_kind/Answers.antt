@@ -6,7 +6,7 @@ use Rattle.jv_data.specs.Kind.{kind_name}
 use Rattle.jv_data.specs.Shared.{bytes_in, text_in}
 use Rattle.jv_data.specs.View.{view}
 use Rattle.jv_data.proofs.shared.Ascii.{ascii_same_as}
-use Rattle.jq_single.proofs.comparing.is_kind.Goals as goal
+use Rattle.jq_single.proofs.finding.is_kind.Goals as goal
 
 pub returns : goal.returns
 returns c =

@@ -5,7 +5,7 @@ use Rattle.jq_meaning.specs.Continuations.{on_target}
 use Rattle.jq_meaning.specs.Runs.{Run, Item, plain}
 use Rattle.jq_meaning.specs.Steps.{step_answer}
 use Rattle.jq_single.specs.Single.{Ends}
-use Rattle.jq_single.proofs.selecting.part_at.Goals as goal
+use Rattle.jq_single.proofs.getting.part_at.Goals as goal
 
 pub returns-in-Ok : goal.returns-in-Ok
 unfolding on_target

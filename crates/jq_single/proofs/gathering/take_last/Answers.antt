@@ -1,7 +1,7 @@
 use Rattle.std.proofs.Common.{◌≡◌, rules, [], ap}
 use Rattle.jq_single.specs.private.Gathering.{given_of}
 use Rattle.jq_single.proofs.Gathered.{last_given}
-use Rattle.jq_single.proofs.giving.take_last.Goals as goal
+use Rattle.jq_single.proofs.gathering.take_last.Goals as goal
 
 pub returns-in-Some : goal.returns-in-Some
 returns-in-Some c = last_given c.pop.result c.args.items.now.items c.pop.new.self.items c.in-Some.item c.pop.ensures.items c.in-Some.is

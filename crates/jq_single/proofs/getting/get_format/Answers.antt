@@ -7,7 +7,7 @@ use Rattle.jq_ast.specs.Named.{name_of}
 use Rattle.jq_meaning.specs.Continuations.{format_of, text_item}
 use Rattle.jq_meaning.specs.Runs.{bind, one, plain}
 use Rattle.jq_single.proofs.Binding.{ends-bind}
-use Rattle.jq_single.proofs.strings.get_format.Goals as goal
+use Rattle.jq_single.proofs.getting.get_format.Goals as goal
 
 pub returns-in-Ok : goal.returns-in-Ok
 unfolding chars

@@ -4,7 +4,7 @@ use Rattle.std.proofs.lemmas.Str.{IsUtf8-string_bytes}
 use Rattle.std.specs.Str.{bytes_eq}
 use Rattle.jv_data.proofs.shared.Ascii.{same_as_ascii}
 use Rattle.jq_ast.specs.Named.{name_of}
-use Rattle.jq_single.proofs.comparing.is_type.Goals as goal
+use Rattle.jq_single.proofs.finding.is_type.Goals as goal
 
 pub returns-then-eq-clause-name : goal.returns-then-eq-clause-name
 returns-then-eq-clause-name c = λ unbound.

@@ -4,7 +4,7 @@ use Rattle.jq_ast.specs.Leaves as leaves
 use Rattle.jq_meaning.specs.Continuations.{on_left}
 use Rattle.jq_meaning.specs.Runs.{answered, plain}
 use Rattle.jq_meaning.specs.Steps.{operator_of}
-use Rattle.jq_single.proofs.operators.operate_in_place.Goals as goal
+use Rattle.jq_single.proofs.changing.operate_in_place.Goals as goal
 
 pub returns-in-Ok-clause-runs : goal.returns-in-Ok-clause-runs
 unfolding on_left

@@ -1,7 +1,7 @@
 use Rattle.jv_data.specs.View.{view}
 use Rattle.jv_arith.specs.Arith.{neg_of}
 use Rattle.jq_meaning.specs.Continuations.{negated}
-use Rattle.jq_single.proofs.combining.negative.Goals as goal
+use Rattle.jq_single.proofs.getting.negative.Goals as goal
 
 pub returns : goal.returns
 unfolding negated

@@ -3,7 +3,7 @@ use Rattle.std.proofs.lemmas.List.{map-append}
 use Rattle.jv_data.specs.Value.{Value}
 use Rattle.jv_data.specs.View.{view}
 use Rattle.jq_state.proofs.shared.Items.{value_of_item}
-use Rattle.jq_single.proofs.giving.add.Goals as goal
+use Rattle.jq_single.proofs.gathering.add.Goals as goal
 
 pub returns : goal.returns
 returns c =
