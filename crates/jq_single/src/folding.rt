@@ -6,7 +6,7 @@ ghost use Rattle.jq_ast.specs.Named.{named, named_as_pattern};
 ghost use Rattle.jq_tree.specs.Tree as form;
 ghost use Rattle.jq_meaning.specs.Runs.{plain};
 ghost use Rattle.jq_single.specs.Single.{Keeps};
-ghost use Rattle.jq_single.specs.private.Gathering.{FoldsAs, FoldsFrom, GathersAll, GathersTurn, Steps, Turns, state_in};
+ghost use Rattle.jq_single.specs.private.Gathering.{FoldsAs, FoldsFrom, GathersAll, GathersTurn, Turns, state_in};
 ghost use Rattle.jq_single.specs.private.Parts.{ChangesTo};
 
 use crate::contexts::Context;
@@ -184,7 +184,7 @@ impl<'s> Context<'s> {
         }
     }
 
-    // A step of a fold: the variable is bound to a value, and the update changes the state.
+    // A step of a fold: the variable is bound to a value, and the output of the update replaces the state, or null if it has none.
     #[cycle(single)]
     fn step(
         &self,
@@ -201,16 +201,7 @@ impl<'s> Context<'s> {
             scope: &scope,
             ..*self
         };
-        inside.change_to_next(&*update, state)
-    }
-
-    // The output of the update replaces the state, or null if it has none.
-    #[cycle(single)]
-    fn change_to_next(&self, update: &'s Tree, state: &mut Val) -> Result<(), Stop>
-        ensures runs { Steps self.now (named update.now) (view state.old) (view state.new) result }
-        ensures keeps { Keeps result (view state.old) (view state.new) }
-    {
-        match self.change(update, state) {
+        match inside.change(&*update, state) {
             Ok(()) => Ok(()),
             Err(Stop::Nothing) => {
                 *state = Val::Null;

@@ -356,7 +356,7 @@ impl<'s> Context<'s> {
             Rest::Parts(guarded, later) => {
                 self.give_step(Operation::EveryPart(*guarded), item, *later, into)
             }
-            Rest::Path(later) => self.give_path(item, *later, into),
+            Rest::Path(later) => self.give_step(Operation::PathValue, item, *later, into),
             Rest::Fold(name, update, context) => {
                 self.turn(*name, *update, *context, &item.value, into)
             }
@@ -384,23 +384,6 @@ impl<'s> Context<'s> {
         };
         let outputs = run(self.alloc, operation, item)?;
         inside.give_outputs(outputs, later, into)
-    }
-
-    // Runs the rest of the filter on the path of an item.
-    #[cycle(single)]
-    #[inline(never)]
-    fn give_path(&self, item: Item, later: &Rest<'s>, into: &mut Vec<Val>) -> Result<(), Stop>
-        ensures { GathersRun (path_item (item_of item)) later.now result into.old.items into.new.items }
-    {
-        if self.fuel == 0 {
-            return Err(Stop::Unknown);
-        }
-        let inside = Context {
-            fuel: self.fuel - 1,
-            ..*self
-        };
-        let path = Item::plain(item.into_path(self.alloc)?);
-        inside.give(path, later, into)
     }
 
     // Runs the rest of the filter on the outputs of a step.

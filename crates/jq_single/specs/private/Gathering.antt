@@ -111,12 +111,7 @@ abbrev pub GoesOn : {A : Type 0} → Result A Stop → (later : Run Item) → Ru
 GoesOn (Ok done) q r = r ≡ q
 GoesOn (Err s) q r = Ends s r
 
--- The next state of an update takes the place of the state, whatever is done with it.
-abbrev pub Steps : {A : Type 0} → Context → Tree → (before later : Value) → Result A Stop → Type 0
-Steps p t v w result =
-    (inputs : Run Value) (level : ℕ) (go : Item → Run Item) → GoesOn result (go (plain w)) (next_state (plain v) (run p inputs level t (plain v)) go)
-
--- The same for a step with a value.
+-- The next state of an update, whose variable is bound to a value, takes the place of the state, whatever is done with it.
 abbrev pub Turns : {A : Type 0} → Context → Name → Tree → (single : Value) → (before later : Value) → Result A Stop → Type 0
 Turns p n t s v w result =
     (inputs : Run Value) (level : ℕ) (go : Item → Run Item) → GoesOn result (go (plain w)) (next_state (plain v) (turn p inputs level n t (plain s) (plain v)) go)

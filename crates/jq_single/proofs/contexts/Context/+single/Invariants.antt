@@ -145,9 +145,6 @@ decreases-change_fold l = 32 * l.self.now.fuel + 5
 abbrev pub decreases-step : goal.decreases-step
 decreases-step l = 32 * l.self.now.fuel + 2
 
-abbrev pub decreases-change_to_next : goal.decreases-change_to_next
-decreases-change_to_next l = 32 * l.self.now.fuel + 1
-
 abbrev pub decreases-turn : goal.decreases-turn
 decreases-turn l = 32 * l.self.now.fuel + 3
 
@@ -228,9 +225,6 @@ decreases-give l = 32 * l.self.now.fuel + 4
 
 abbrev pub decreases-give_step : goal.decreases-give_step
 decreases-give_step l = 32 * l.self.now.fuel + 3
-
-abbrev pub decreases-give_path : goal.decreases-give_path
-decreases-give_path l = 32 * l.self.now.fuel + 3
 
 abbrev pub decreases-give_outputs : goal.decreases-give_outputs
 decreases-give_outputs l = 32 * l.self.now.fuel + 7
