@@ -1,15 +1,14 @@
 -- What is claimed of the steps of a fold.
-use Rattle.std.proofs.Common.{◌≡◌, ◌∙◌, ℕ, List, [], ◌∷◌, ◌++◌, length, get_or, Option, Some, None, IfSome, option_to_list, Result, Ok, Err, refl, sym, ap, subst, arith}
+use Rattle.std.proofs.Common.{◌≡◌, ◌∙◌, ℕ, List, [], ◌∷◌, ◌++◌, map, length, get_or, Option, Some, None, IfSome, option_to_list, Result, Ok, Err, refl, sym, ap, subst, arith}
 use Rattle.jv_data.specs.Value.{Value, null, array, items_of}
 use Rattle.jv_data.specs.View.{view}
 use Rattle.jv_data.specs.declared.values.Val.{Val}
-use Rattle.jq_meaning.specs.Builtins.{values_in_array}
 use Rattle.jq_meaning.specs.Continuations.{on_source, on_state}
 use Rattle.jq_meaning.specs.Env.{Env, bound, value_of}
 use Rattle.jq_meaning.specs.Folds.{next_state, reduced}
 use Rattle.jq_meaning.specs.Folds as folds
 use Rattle.jq_meaning.specs.Meaning.{Means, bindings_with, meaning}
-use Rattle.jq_meaning.specs.Runs.{Item, plain, located, value_in, path_error, Ending, Done, Raised, Broken, Stopped, Run, none, one, go_on, then_run, bind_items, bind, gathered}
+use Rattle.jq_meaning.specs.Runs.{Item, plain, located, value_in, path_error, Ending, Done, Run, none, one, go_on, then_run, bind_items, bind, gathered}
 use Rattle.jq_tree.specs.Tree.{Name, Tree}
 use Rattle.jq_tree.specs.Tree as tree
 use Rattle.jq_meaning.proofs.shared.machine.RunLaws.{bind-one_right, then_run-none}
@@ -18,6 +17,7 @@ use Rattle.jq_single.specs.private.Gathering.{Gathers, GoesOn, folded, last_or, 
 use Rattle.jq_single.specs.private.Scopes.{scope_env}
 use Rattle.jq_single.specs.declared.contexts.Context.{Context}
 use Rattle.jq_single.specs.declared.stops.Stop.{Stop}
+use Rattle.jq_single.proofs.Gathered.{gathered_same}
 
 -- the state is the last value
 pub last_or_end : (v : Value) (xs : List Val) (x : Val) → last_or v (xs ++ x ∷ []) ≡ view x
@@ -67,38 +67,21 @@ fold_ends deeper k n e update source xs state r h g =
 
 -- ---- a fold of one step
 
-abbrev pub values_first : List Item → List Value
-values_first [] = []
-values_first (x ∷ xs) = values_in_array (value_in x)
-
-abbrev pub first_or : Value → List Value → Value
-first_or v [] = v
-first_or v (x ∷ xs) = x
-
--- the values of an array of the outputs
-pub in_array : (xs : List Item) (f : Ending) (s : Value) → gathered (record { items = xs; ending = f }) ≡ one (plain (array (items_of (s ∷ []))))
-    → values_first (gathered (record { items = xs; ending = f })).items ≡ s ∷ []
-in_array xs f s g = ap (λ (q : Run Item). values_first q.items) g
-
-one_step : (deeper : Means) (k : ℕ) (n : Name) (e : Env) (update : Env → ℕ → Item → Run Item) (y : Item) (s : Value) (state : Item) → value_in y ≡ s
-    → reduced (on_state update k) (bind_items (y ∷ []) Done (on_source (bindings_with deeper (tree.whole n) k) e)).items (bind_items (y ∷ []) Done (on_source (bindings_with deeper (tree.whole n) k) e)).ending state
-    ≡ next_state state (update (bound (value_of n s) e) k state) one
-one_step deeper k n e update y s state h =
-    let step : Item → Item → Run Item = λ x. update (bound (value_of n (value_in x)) e) k in
-    reduced-bound deeper k n e update (y ∷ []) Done state
-    ∙ next-same state (step y state) (reduced step [] Done) one (λ z. refl)
-    ∙ ap (λ w. next_state state (update (bound (value_of n w) e) k state) one) h
+one_step : (step : Value → Item → Run Item) (xs : List Item) (s : Value) (state : Item) → map value_in xs ≡ s ∷ [] → reduced (λ x. step (value_in x)) xs Done state ≡ next_state state (step s state) one
+one_step step [] s state h = let c = ap length h in absurd (omega (arith, c))
+one_step step (y ∷ []) s state h =
+    let first : value_in y ≡ s = cc h in
+    next-same state (step (value_in y) state) (reduced (λ x. step (value_in x)) [] Done) one (λ z. refl) ∙ ap (λ w. next_state state (step w state) one) first
+one_step step (y ∷ z ∷ zs) s state h = let c = ap length h in absurd (omega (arith, c))
 
 pub single_fold : (deeper : Means) (k : ℕ) (n : Name) (e : Env) (update : Env → ℕ → Item → Run Item) (xs : List Item) (f : Ending) (s : Value) (state : Item)
     → gathered (record { items = xs; ending = f }) ≡ one (plain (array (items_of (s ∷ []))))
     → reduced (on_state update k) (bind_items xs f (on_source (bindings_with deeper (tree.whole n) k) e)).items (bind_items xs f (on_source (bindings_with deeper (tree.whole n) k) e)).ending state
     ≡ next_state state (update (bound (value_of n s) e) k state) one
-single_fold deeper k n e update (y ∷ []) Done s state g = one_step deeper k n e update y s state (ap (first_or null) (in_array (y ∷ []) Done s g))
-single_fold deeper k n e update [] Done s state g = let c = ap length (in_array [] Done s g) in absurd (omega (arith, c))
-single_fold deeper k n e update (y ∷ z ∷ zs) Done s state g = let c = ap length (in_array (y ∷ z ∷ zs) Done s g) in absurd (omega (arith, c))
-single_fold deeper k n e update xs (Raised v) s state g = let c = ap length (in_array xs (Raised v) s g) in absurd (omega (arith, c))
-single_fold deeper k n e update xs (Broken l) s state g = let c = ap length (in_array xs (Broken l) s g) in absurd (omega (arith, c))
-single_fold deeper k n e update xs (Stopped stop) s state g = let c = ap length (in_array xs (Stopped stop) s g) in absurd (omega (arith, c))
+single_fold deeper k n e update xs f s state g =
+    let is = gathered_same xs f (s ∷ []) g in
+    let step : Value → Item → Run Item = λ w. update (bound (value_of n w) e) k in
+    reduced-bound deeper k n e update xs f state ∙ ap (λ h. reduced (λ x. step (value_in x)) xs h state) is.1 ∙ one_step step xs s state is.0
 
 pub one_value : (ts : List Val) (t : Val) → length ts ≡ 1 → t ≡ get_or ts 0 t → ts ≡ t ∷ []
 one_value [] t e h = absurd (omega (arith, e))

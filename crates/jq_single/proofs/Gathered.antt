@@ -1,16 +1,18 @@
 -- What is claimed of the outputs that are added to a list, or that change the state of a fold.
-use Rattle.std.proofs.Common.{◌≡◌, ◌∙◌, true, false, List, [], ◌∷◌, ◌++◌, map, reverse, ℕ, Option, Some, option_to_list, Result, Ok, Err, refl, sym, ap, subst}
+use Rattle.std.proofs.Common.{◌≡◌, ◌∙◌, true, false, List, [], ◌∷◌, ◌++◌, map, reverse, length, ℕ, Option, Some, option_to_list, Result, Ok, Err, refl, sym, ap, subst, arith}
 use Rattle.std.proofs.lemmas.List.{append-nil, map-append, reverse-append}
-use Rattle.jv_data.specs.Value.{Value, array, items_of}
+use Rattle.jv_data.proofs.shared.Items.{values_of-items_of}
+use Rattle.jv_data.specs.Value.{Value, array, items_of, values_of}
 use Rattle.jv_data.specs.View.{view}
 use Rattle.jv_data.specs.declared.values.Val.{Val}
 use Rattle.jq_natives.specs.Answers.{is_true}
+use Rattle.jq_meaning.specs.Builtins.{values_in_array}
 use Rattle.jq_meaning.specs.Continuations.{on_test, on_source, in_bindings}
 use Rattle.jq_tree.specs.Tree.{Name, Tree}
 use Rattle.jq_tree.specs.Tree as tree
 use Rattle.jq_meaning.specs.Env.{Env, bound, value_of}
 use Rattle.jq_meaning.specs.Meaning.{Means, bindings_with}
-use Rattle.jq_meaning.specs.Runs.{Item, plain, value_in, Ending, Done, Run, none, one, fail, before, then_run, bind_items, bind, gathered}
+use Rattle.jq_meaning.specs.Runs.{Item, plain, value_in, Ending, Done, Raised, Broken, Stopped, Run, none, one, fail, before, then_run, bind_items, bind, gathered}
 use Rattle.jq_state.specs.Items.{item_of}
 use Rattle.jq_state.specs.declared.items.Item as items
 use Rattle.jq_meaning.proofs.shared.machine.RunLaws.{bind-bind, bind-one, bind-one_right, bind-then_run, then_run-assoc, then_run-none}
@@ -62,6 +64,15 @@ gathered_list inputs level most d xs ys r e g = sym (all_made inputs level most 
 
 pub ends_gathered : (inputs : Run Value) (level most : ℕ) (s : Stop) (xs : List Val) (r : Run Item) → xs ≡ [] → ((q : Run Item) → Ends s (made inputs level (rest.End most) xs (then_run (bind r one) q))) → Ends s (gathered r)
 ends_gathered inputs level most s xs r e h = subst (Ends s) (all_made inputs level most xs r e) (h none)
+
+-- the values and the ending of a run whose outputs are those of an array
+pub gathered_same : (xs : List Item) (f : Ending) (vs : List Value) → gathered (record { items = xs; ending = f }) ≡ one (plain (array (items_of vs))) → (map value_in xs ≡ vs) × (f ≡ Done)
+gathered_same xs Done vs h =
+    let same : values_of (items_of (map value_in xs)) ∷ [] ≡ values_of (items_of vs) ∷ [] = ap (λ (q : Run Item). map (λ y. values_in_array (value_in y)) q.items) h in
+    (sym (values_of-items_of (map value_in xs)) ∙ (cc same) ∙ values_of-items_of vs, refl)
+gathered_same xs (Raised e) vs h = let c = ap (λ (q : Run Item). length q.items) h in absurd (omega (arith, c))
+gathered_same xs (Broken l) vs h = let c = ap (λ (q : Run Item). length q.items) h in absurd (omega (arith, c))
+gathered_same xs (Stopped s) vs h = let c = ap (λ (q : Run Item). length q.items) h in absurd (omega (arith, c))
 
 -- all outputs of a tree on a value
 pub gathers_all : (p : Context) (t : Tree) (v : Value) (most : ℕ) (a : Result (Unit {0}) Stop) (xs ys : List Val) (x : Item) → x ≡ plain v → xs ≡ []

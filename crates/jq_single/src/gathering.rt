@@ -9,7 +9,7 @@ ghost use Rattle.jq_single.specs.private.Gathering.{GathersBelow, GathersBuiltin
 ghost use Rattle.jq_single.specs.private.Parts.{Calls};
 ghost use Rattle.jv_data.specs.Value.{Value};
 ghost use Rattle.jv_data.specs.View.{view};
-ghost use Rattle.jq_meaning.specs.machine.Operations.{path_item, result_of};
+ghost use Rattle.jq_meaning.specs.machine.Operations.{result_of};
 ghost use Rattle.jq_state.specs.Steps.{operation_of};
 ghost use Rattle.jq_meaning.specs.Runs.{Run, before, none, one, value_in, located, plain};
 ghost use Rattle.jq_operations.specs.Outputs.{outputs_of};
