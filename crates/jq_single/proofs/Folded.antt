@@ -1,5 +1,5 @@
 -- What is claimed of the steps of a fold.
-use Rattle.std.proofs.Common.{◌≡◌, ◌∙◌, ℕ, List, [], ◌∷◌, ◌++◌, map, length, get_or, Option, Some, None, IfSome, option_to_list, Result, Ok, Err, refl, sym, ap, subst, arith}
+use Rattle.std.proofs.Common.{◌≡◌, ◌∙◌, ℕ, List, [], ◌∷◌, ◌++◌, map, length, Option, Some, None, IfSome, option_to_list, Result, Ok, Err, refl, sym, ap, subst, arith}
 use Rattle.jv_data.specs.Value.{Value, null, array, items_of}
 use Rattle.jv_data.specs.View.{view}
 use Rattle.jv_data.specs.declared.values.Val.{Val}
@@ -82,11 +82,6 @@ single_fold deeper k n e update xs f s state g =
     let is = gathered_same xs f (s ∷ []) g in
     let step : Value → Item → Run Item = λ w. update (bound (value_of n w) e) k in
     reduced-bound deeper k n e update xs f state ∙ ap (λ h. reduced (λ x. step (value_in x)) xs h state) is.1 ∙ one_step step xs s state is.0
-
-pub one_value : (ts : List Val) (t : Val) → length ts ≡ 1 → t ≡ get_or ts 0 t → ts ≡ t ∷ []
-one_value [] t e h = absurd (omega (arith, e))
-one_value (a ∷ []) t e h = ap (λ z. z ∷ []) (sym h)
-one_value (a ∷ b ∷ ts) t e h = absurd (omega (arith, e))
 
 -- ---- a step of a fold sees the value of an item alone
 

@@ -13,6 +13,18 @@ use Rattle.jq_single.specs.declared.contexts.Context.{Context}
 use Rattle.jq_single.specs.private.Parts.{run}
 use Rattle.jq_single.specs.private.Scopes.{scope_env}
 
+-- the items of a list of one or two
+pub one_value : {A : Type 0} (ts : List A) (a : A) → length ts ≡ 1 → a ≡ get_or ts 0 a → ts ≡ a ∷ []
+one_value [] a e h = absurd (omega (arith, e))
+one_value (x ∷ []) a e h = ap (λ z. z ∷ []) (sym h)
+one_value (x ∷ y ∷ ts) a e h = absurd (omega (arith, e))
+
+pub two_values : {A : Type 0} (ts : List A) (a b : A) → length ts ≡ 2 → a ≡ get_or ts 0 a → b ≡ get_or ts 1 b → ts ≡ a ∷ b ∷ []
+two_values [] a b e h k = absurd (omega (arith, e))
+two_values (x ∷ []) a b e h k = absurd (omega (arith, e))
+two_values (x ∷ y ∷ []) a b e h k = ap (λ z. z ∷ y ∷ []) (sym h) ∙ ap (λ z. a ∷ z ∷ []) (sym k)
+two_values (x ∷ y ∷ z ∷ ts) a b e h k = absurd (omega (arith, e))
+
 -- without a path `getpath` is like the others
 pub native_plain : (f : Native) (rs : List (Run Item)) (v : Value) → native_run f rs (plain v) ≡ each_choice rs (plain_native f v)
 native_plain GetPath rs v = refl
@@ -23,10 +35,5 @@ pub two_chosen : (p : Context) (inputs : Run Value) (level : ℕ) (g : List Valu
     → t ≡ get_or ts 0 t → u ≡ get_or ts 1 u
     → each_choice (arguments_with (below p.depth) (trees_of (map named ts)) (scope_env inputs p.scope.now) level (plain v)) g
     ≡ bind (run p inputs level (named t) (plain v)) (λ x. bind (run p inputs level (named u) (plain v)) (λ y. g (value_in x ∷ value_in y ∷ [])))
-two_chosen p inputs level g [] t u v e h k = absurd (omega (arith, e))
-two_chosen p inputs level g (a ∷ []) t u v e h k = absurd (omega (arith, e))
-two_chosen p inputs level g (a ∷ b ∷ []) t u v e h k =
-    let first = λ (z : ast.Tree). run p inputs level (named z) (plain v) in
-    ap (λ z. bind (first z) (λ x. bind (first b) (λ y. g (value_in x ∷ value_in y ∷ [])))) (sym h)
-    ∙ ap (λ z. bind (first t) (λ x. bind (first z) (λ y. g (value_in x ∷ value_in y ∷ [])))) (sym k)
-two_chosen p inputs level g (a ∷ b ∷ c ∷ ts) t u v e h k = absurd (omega (arith, e))
+two_chosen p inputs level g ts t u v e h k =
+    ap (λ us. each_choice (arguments_with (below p.depth) (trees_of (map named us)) (scope_env inputs p.scope.now) level (plain v)) g) (two_values ts t u e h k)

@@ -1,5 +1,5 @@
 -- What is claimed of paths.
-use Rattle.std.proofs.Common.{◌≡◌, ◌∙◌, ℕ, List, [], ◌∷◌, map, length, get_or, sym, ap, arith}
+use Rattle.std.proofs.Common.{◌≡◌, ◌∙◌, ℕ, List, [], map, length, get_or, ap}
 use Rattle.jv_data.specs.Value.{Value}
 use Rattle.jq_ast.specs.Named.{named}
 use Rattle.jq_ast.specs.declared.tree.Tree as ast
@@ -11,6 +11,7 @@ use Rattle.jq_meaning.specs.Builtins.{paths}
 use Rattle.jq_meaning.specs.Runs.{Item, plain, located, Run, one, bind, paths_in}
 use Rattle.jq_single.specs.private.Parts.{builtin_in, run}
 use Rattle.jq_single.specs.declared.contexts.Context.{Context}
+use Rattle.jq_single.proofs.GivenArguments.{one_value}
 
 pub paths-rest : (r : Run Item) (later : Item → Run Item) → bind (paths_in r) later ≡ bind r (λ x. bind (path_item x) later)
 paths-rest r later = ap (λ q. bind q later) (paths-bind r) ∙ bind-bind r path_item later
@@ -18,6 +19,4 @@ paths-rest r later = ap (λ q. bind q later) (paths-bind r) ∙ bind-bind r path
 -- with one argument
 pub path_given : (p : Context) (inputs : Run Value) (level : ℕ) (ts : List ast.Tree) (t : ast.Tree) (v : Value) → length ts ≡ 1 → t ≡ get_or ts 0 t
     → builtin_in p inputs level paths (trees_of (map named ts)) (plain v) ≡ paths_in (run p inputs level (named t) (located v []))
-path_given p inputs level [] t v e h = absurd (omega (arith, e))
-path_given p inputs level (a ∷ []) t v e h = ap (λ (z : ast.Tree). paths_in (run p inputs level (named z) (located v []))) (sym h)
-path_given p inputs level (a ∷ b ∷ ts) t v e h = absurd (omega (arith, e))
+path_given p inputs level ts t v e h = ap (λ us. builtin_in p inputs level paths (trees_of (map named us)) (plain v)) (one_value ts t e h)

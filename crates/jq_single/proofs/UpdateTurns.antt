@@ -1,5 +1,5 @@
 -- What is claimed of updates.
-use Rattle.std.proofs.Common.{◌≡◌, ◌∙◌, ℕ, suc, ◌+◌, List, [], ◌∷◌, ◌++◌, length, get_or, map, Result, Ok, Err, codes, refl, sym, ap, subst, arith}
+use Rattle.std.proofs.Common.{◌≡◌, ◌∙◌, ℕ, suc, ◌+◌, List, [], ◌∷◌, ◌++◌, length, get_or, map, Result, Ok, Err, codes, refl, sym, ap, subst}
 use Rattle.jv_arith.specs.Arith.{add_of}
 use Rattle.jv_data.proofs.shared.Levels.{view-List}
 use Rattle.jv_data.specs.Shared.{items_in}
@@ -31,14 +31,9 @@ use Rattle.jq_single.specs.private.FirstOutputs.{first_alone}
 use Rattle.jq_single.specs.private.Gathering.{GoesOn}
 use Rattle.jq_single.proofs.Binding.{bind-known, ends-bind}
 use Rattle.jq_single.proofs.Gathered.{gathered_same}
+use Rattle.jq_single.proofs.GivenArguments.{two_values}
 
 -- ---- the call of `_modify`
-
-two_values : {A : Type 0} (ts : List A) (a b : A) → length ts ≡ 2 → a ≡ get_or ts 0 a → b ≡ get_or ts 1 b → ts ≡ a ∷ b ∷ []
-two_values [] a b e h k = absurd (omega (arith, e))
-two_values (x ∷ []) a b e h k = absurd (omega (arith, e))
-two_values (x ∷ y ∷ []) a b e h k = ap (λ z. z ∷ y ∷ []) (sym h) ∙ ap (λ z. a ∷ z ∷ []) (sym k)
-two_values (x ∷ y ∷ z ∷ ts) a b e h k = absurd (omega (arith, e))
 
 pub modify_tree : (m : Modify) (ts : List ast.Tree) (a b : ast.Tree) → length ts ≡ 2 → a ≡ get_or ts 0 a → b ≡ get_or ts 1 b
     → tree.prelude_call (name_of m.name) (trees_of (map named ts)) ≡ modify (named a) (named b)
