@@ -1,37 +1,59 @@
--- What is claimed of updates.
-use Rattle.std.proofs.Common.{◌≡◌, ◌∙◌, ℕ, suc, ◌+◌, List, [], ◌∷◌, ◌++◌, length, get_or, map, Result, Ok, Err, codes, refl, sym, ap, subst}
+-- What is claimed of updates, and of the first output of a run.
+use Rattle.std.proofs.Common.{◌≡◌, ◌∙◌, List, [], ◌∷◌, Result, Ok, Err, refl, ap, ℕ, suc, ◌+◌, ◌++◌, length, get_or, map, codes, sym, subst, Bool, true, false}
+use Rattle.jv_data.specs.Value.{Value, array, items_of, compare}
+use Rattle.jq_meaning.specs.Runs.{Item, Ending, Run, then_run, plain, located, value_in, Done, none, one, fail, gathered, answered, bind, paths_in}
+use Rattle.jq_single.specs.Single.{Changed, Ends}
+use Rattle.jq_single.specs.private.FirstOutputs.{first_alone}
+use Rattle.jq_single.specs.declared.stops.Stop.{Stop}
 use Rattle.jv_arith.specs.Arith.{add_of}
 use Rattle.jv_data.proofs.shared.Levels.{view-List}
 use Rattle.jv_data.specs.Shared.{items_in}
 use Rattle.jv_data.specs.View.{view}
 use Rattle.jv_data.specs.declared.containers.arrays.Array.{Array}
 use Rattle.jv_data.specs.declared.values.Val.{Val}
-use Rattle.jv_data.specs.declared.values.Val as val
 use Rattle.jv_data.proofs.shared.Items.{values_of-items_of}
-use Rattle.jv_data.specs.Value.{Value, array, items_of}
 use Rattle.jv_value.specs.GetPath.{getpath_of}
 use Rattle.jq_ast.specs.Named.{name_of, named}
 use Rattle.jq_ast.specs.declared.names.Modify.{Modify}
-use Rattle.jq_ast.specs.declared.tree.Tree as ast
 use Rattle.jq_tree.specs.Tree.{Name, Tree, Trees, no_trees, more_trees, trees_of}
-use Rattle.jq_tree.specs.Tree as tree
 use Rattle.jq_tree.specs.WrittenOut.{modify}
 use Rattle.jq_natives.specs.Answers.{Answer}
 use Rattle.jq_natives.specs.PathNatives.{getpath_native_of, setpath_native_of}
 use Rattle.jq_meaning.specs.Env.{Env, bound, closure, with_arguments}
 use Rattle.jq_meaning.specs.Meaning.{meaning}
-use Rattle.jq_meaning.specs.Runs.{Item, plain, located, value_in, Ending, Done, Run, none, one, fail, gathered, answered, bind, paths_in}
 use Rattle.jq_meaning.specs.updates.Known.{HasModify}
 use Rattle.jq_meaning.specs.laws.Updates.{ModifyStays}
 use Rattle.jq_meaning.specs.laws.Updating.{with_answer, on_outputs, turn_of, turns, updated, update_run}
 use Rattle.jq_meaning.proofs.shared.machine.RunLaws.{bind-one}
-use Rattle.jq_single.specs.Single.{Changed, Ends}
-use Rattle.jq_single.specs.declared.stops.Stop.{Stop}
-use Rattle.jq_single.specs.private.FirstOutputs.{first_alone}
 use Rattle.jq_single.specs.private.Gathering.{GoesOn}
-use Rattle.jq_single.proofs.Binding.{bind-known, ends-bind}
-use Rattle.jq_single.proofs.Gathered.{gathered_same}
-use Rattle.jq_single.proofs.GivenArguments.{two_values}
+use Rattle.jq_single.proofs.Binding.{bind-known, ends-bind, gathered_same}
+use Rattle.jq_single.proofs.Calls.{two_values}
+use Rattle.std.proofs.lemmas.Bool.{false≢true}
+use Rattle.std.proofs.Props.{props}
+use Rattle.std.specs.Bool.{Decides}
+use Rattle.std.specs.Ordering.{is_eq}
+use mathlib.Core.HLevel.{hedberg}
+use Rattle.jv_data.proofs.shared.Order.{same_Decides}
+use Rattle.jq_single.specs.declared.stops.Stop.TheVariants as stop
+use Rattle.jv_data.specs.declared.values.Val as val
+use Rattle.jq_ast.specs.declared.tree.Tree as ast
+use Rattle.jq_tree.specs.Tree as tree
+
+-- the only output is the first one
+pub changed-first : {A : Type 0} (a : Result A Stop) (w : Value) (r : Run Item) → Changed a w r → Changed a w (first_alone r)
+changed-first (Ok d) w r h = ap first_alone h
+changed-first (Err stop.Nothing) w r h = ap first_alone h
+changed-first (Err (stop.Raised e)) w r h = ap first_alone h
+changed-first (Err stop.NoMemory) w r h = tt
+changed-first (Err stop.Unknown) w r h = tt
+
+-- the first output of two runs depends on that of the first run
+first-same : (xs : List Item) (f : Ending) (s : Run Item) → first_alone (then_run (record { items = xs; ending = f }) s) ≡ first_alone (then_run (first_alone (record { items = xs; ending = f })) s)
+first-same [] f s = refl
+first-same (x ∷ xs) f s = refl
+
+pub first-then : (r s q : Run Item) → first_alone r ≡ q → first_alone (then_run r s) ≡ first_alone (then_run q s)
+first-then r s q h = first-same r.items r.ending s ∙ ap (λ (z : Run Item). first_alone (then_run z s)) h
 
 -- ---- the call of `_modify`
 
@@ -97,3 +119,20 @@ module _ (k : ℕ) (x ds p : Value) (go : Value → Value → Run Item) where
 -- a path is added to the list
 pub listed_more : (ds es : List Value) (p : Value) → es ≡ ds ++ p ∷ [] → add_of (array (items_of ds)) (array (items_of (p ∷ []))) ≡ Ok (array (items_of es))
 listed_more ds es p h = ap (λ vs. Ok (array (items_of (vs ++ p ∷ [])))) (values_of-items_of ds) ∙ ap (λ vs. Ok (array (items_of vs))) (sym h)
+
+decided : {P : Type 0} (b : Bool) → Decides b P → Dec P
+decided true d = yes (d.0 refl)
+decided false d = no (λ p. false≢true (d.1 p))
+
+value_set : IsSet Value
+value_set = hedberg (λ v w. decided (is_eq (compare v w)) (same_Decides v w))
+
+run_set : IsSet (Run Item)
+run_set = hlevel (props, value_set)
+
+pub changed-prop : {A : Type 0} (a : Result A Stop) (w : Value) (r : Run Item) → IsProp (Changed a w r)
+changed-prop (Ok d) w r = run_set r (one (plain w))
+changed-prop (Err stop.Nothing) w r = run_set r none
+changed-prop (Err (stop.Raised e)) w r = run_set r (fail (view e))
+changed-prop (Err stop.NoMemory) w r = hlevel
+changed-prop (Err stop.Unknown) w r = hlevel

@@ -225,7 +225,7 @@ pub(crate) fn single_of(values: &[Val]) -> Option<&Val>
 }
 
 // The state is the last value of a list.
-#[tactic(auto, using(crate::proofs::Folded::last_or_end))]
+#[tactic(auto, using(crate::proofs::Binding::last_or_end))]
 fn keep(states: &mut Vec<Val>, state: Val) -> Result<(), NoMemory>
     ensures { OnOk result (state_in states.new.items ≡ plain (view state)) }
 {

@@ -5,8 +5,7 @@ use Rattle.jq_tree.specs.Tree.{trees_of}
 use Rattle.jq_meaning.specs.Env.{Env, Callee, callee_or, find_in_prelude}
 use Rattle.jq_single.specs.private.Finds.{found_in}
 use Rattle.jq_single.specs.private.Scopes.{scope_env}
-use Rattle.jq_single.proofs.Bodies.{or-more, or-same}
-use Rattle.jq_single.proofs.Passed.{prelude_past}
+use Rattle.jq_single.proofs.Calls.{or-more, or-same, prelude_past}
 use Rattle.jq_single.proofs.finding.+prelude_of.Goals as goal
 
 pub returns-in-Run : goal.returns-in-Run

@@ -8,7 +8,7 @@ use Rattle.jq_tree.specs.Tree.{trees_of}
 use Rattle.jq_meaning.specs.Env.{Env, find_value}
 use Rattle.jq_meaning.specs.Runs.{Run}
 use Rattle.jq_single.specs.private.Scopes.{scope_env}
-use Rattle.jq_single.proofs.Passed.{value_past}
+use Rattle.jq_single.proofs.Calls.{value_past}
 use Rattle.jq_single.proofs.finding.+value_of.Goals as goal
 
 carried : {E : Type 0} (r : Result Val E) (f g : Run Value → Value) → ((inputs : Run Value) → f inputs ≡ g inputs) → IfOk r (λ v. (inputs : Run Value) → view v ≡ f inputs) → IfOk r (λ v. (inputs : Run Value) → view v ≡ g inputs)

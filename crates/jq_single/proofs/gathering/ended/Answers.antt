@@ -2,7 +2,7 @@ use Rattle.std.proofs.Common.{subst}
 use Rattle.jv_data.specs.View.{view}
 use Rattle.jq_single.specs.Single.{Ends}
 use Rattle.jq_single.specs.declared.stops.Stop.{Stop}
-use Rattle.jq_single.proofs.Gathered.{gathers-fail}
+use Rattle.jq_single.proofs.Binding.{gathers-fail}
 use Rattle.jq_single.proofs.gathering.ended.Goals as goal
 
 pub returns-in-Raised : goal.returns-in-Raised

@@ -1,6 +1,6 @@
 use Rattle.std.proofs.Common.{◌≡◌, rules, [], ap}
 use Rattle.jq_single.specs.private.Gathering.{given_of}
-use Rattle.jq_single.proofs.Gathered.{last_given}
+use Rattle.jq_single.proofs.Binding.{last_given}
 use Rattle.jq_single.proofs.gathering.take_last.Goals as goal
 
 pub returns-in-Some : goal.returns-in-Some

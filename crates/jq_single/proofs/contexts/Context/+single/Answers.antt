@@ -38,17 +38,11 @@ use Rattle.jq_meaning.specs.laws.Updating.{turn_of, turns}
 use Rattle.jq_single.specs.private.Parts.{Answers, Calls, ChangesTo, builtin_in, run}
 use Rattle.jq_single.specs.Single.{Changed, Ends}
 use Rattle.jq_single.specs.private.FirstOutputs.{first_alone}
-use Rattle.jq_single.proofs.Binding.{bind-known, ends-bind, ends-after, answers-bind, changed-bind, changed-stops, goes-changed, keeps-stops, leaves_same, stops, untold, and_goes, and_stops, or_goes, or_stops, truth_of, caught, with_variable, text-bind, text-stops}
+use Rattle.jq_single.proofs.Binding.{bind-known, ends-bind, ends-after, answers-bind, changed-bind, changed-stops, goes-changed, keeps-stops, leaves_same, stops, untold, and_goes, and_stops, or_goes, or_stops, truth_of, caught, with_variable, text-bind, text-stops, gathers-none, gathers-then, gathers-fail, gathers_all, gives_first, stops_first, stops-then, gathered_list, ends_gathered, bound_rest, picks_holds, picks_fails, fold_value, turned, fold_ends, single_fold}
 use Rattle.jq_single.specs.declared.rests.Rest.{Rest}
 use Rattle.jq_single.specs.declared.rests.Rest.TheVariants as rest
-use Rattle.jq_single.proofs.Gathered.{gathers-none, gathers-then, gathers-fail, gathers_all, gives_first, stops_first, stops-then, gathered_list, ends_gathered, bound_rest, picks_holds, picks_fails}
-use Rattle.jq_single.proofs.Folded.{fold_value, turned, fold_ends, single_fold}
-use Rattle.jq_single.proofs.FirstOutputs.{changed-first, first-then}
-use Rattle.jq_single.proofs.Sets.{changed-prop}
-use Rattle.jq_single.proofs.UpdateTurns.{getpath_keys, known_paths, listed_more, modify_tree, turn_lists, turn_raises, turn_sets, two_calls_deep}
-use Rattle.jq_single.proofs.Located.{path_given, paths-rest}
-use Rattle.jq_single.proofs.Bodies.{body_runs, named-Identity, text_is}
-use Rattle.jq_single.proofs.GivenArguments.{native_plain, two_chosen}
+use Rattle.jq_single.proofs.UpdateTurns.{changed-first, first-then, changed-prop, getpath_keys, known_paths, listed_more, modify_tree, turn_lists, turn_raises, turn_sets, two_calls_deep}
+use Rattle.jq_single.proofs.Calls.{path_given, paths-rest, body_runs, named-Identity, text_is, native_plain, two_chosen}
 use Rattle.jq_single.proofs.contexts.Context.+single.Goals as goal
 
 -- ---- forms

@@ -5,7 +5,7 @@ use Rattle.jq_meaning.specs.Builtins.{builtin_named}
 use Rattle.jq_meaning.specs.Env.{find_callee}
 use Rattle.jq_operations.specs.Language.{meaning_of}
 use Rattle.jq_single.specs.private.Scopes.{scope_env}
-use Rattle.jq_single.proofs.Bodies.{builtin_runs, closure_runs, function_runs}
+use Rattle.jq_single.proofs.Calls.{builtin_runs, closure_runs, function_runs}
 use Rattle.jq_single.proofs.contexts.Context.called.Goals as goal
 
 pub returns-in-Function : goal.returns-in-Function

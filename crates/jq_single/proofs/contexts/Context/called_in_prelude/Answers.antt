@@ -2,7 +2,7 @@ use Rattle.std.proofs.Common.{◌∙◌, ap}
 use Rattle.jq_ast.specs.Named.{name_of}
 use Rattle.jq_meaning.specs.Env.{find_in_prelude}
 use Rattle.jq_single.specs.private.Scopes.{scope_env}
-use Rattle.jq_single.proofs.Bodies.{prelude_runs}
+use Rattle.jq_single.proofs.Calls.{prelude_runs}
 use Rattle.jq_single.proofs.contexts.Context.called_in_prelude.Goals as goal
 
 pub returns-in-Function : goal.returns-in-Function

@@ -2,8 +2,7 @@ use Rattle.std.proofs.Common.{◌∙◌, ap}
 use Rattle.jv_data.specs.View.{view}
 use Rattle.jq_ast.specs.Leaves.{literal_of, operator_of}
 use Rattle.jq_ast.specs.Named.{name_of, named}
-use Rattle.jq_single.proofs.Bodies.{named-Literal}
-use Rattle.jq_single.proofs.Compared.{kind_told}
+use Rattle.jq_single.proofs.Calls.{named-Literal, kind_told}
 use Rattle.jq_single.proofs.contexts.Context.compared.Goals as goal
 
 pub returns-then-is_type : goal.returns-then-is_type
