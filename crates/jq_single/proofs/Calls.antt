@@ -1,5 +1,5 @@
 -- What calls find and run, and what is claimed of natives, of paths and of comparisons of `type`.
-use Rattle.std.proofs.Common.{◌≡◌, ◌∙◌, ℕ, List, [], ◌∷◌, map, length, get_or, refl, sym, ap, arith, ◌<◌, Bool, true, false, ◌&&◌, if◌then◌else◌, nat_eq, ◌+◌, add-one, Option, Some, None, IfSome, Ok, codes}
+use Rattle.std.proofs.Common.{◌≡◌, ◌∙◌, ℕ, List, [], ◌∷◌, map, length, get_or, refl, sym, ap, subst, arith, ◌<◌, Bool, true, false, ◌&&◌, if◌then◌else◌, nat_eq, ◌+◌, add-one, Option, Some, None, IfSome, Ok, codes}
 use Rattle.jv_data.specs.Value.{Value, string, boolean}
 use Rattle.jq_ast.specs.Named.{named, named_member, named_pattern, named_tree}
 use Rattle.jq_natives.specs.declared.native.Native.{Native}
@@ -10,7 +10,7 @@ use Rattle.jq_meaning.specs.Meaning.{arguments_with, below, called, meaning}
 use Rattle.jq_meaning.specs.Runs.{Run, Item, plain, value_in, bind, none, answered, one, located, paths_in}
 use Rattle.jq_single.specs.declared.contexts.Context.{Context}
 use Rattle.jq_single.specs.private.Parts.{run, body_in, builtin_in, RunsTo}
-use Rattle.jq_single.specs.private.Scopes.{scope_env}
+use Rattle.jq_single.specs.private.Scopes.{outside_in, scope_env}
 use Rattle.std.specs.Prelude.{bytes_eq}
 use Rattle.std.proofs.lemmas.Bool.Decides.{nat_tests}
 use Rattle.jq_meaning.specs.Env.{Env, Callee, bound, closure, find_callee, find_in_prelude, find_value, found_closure, with_arguments, found_function, no_callee, callee_or, find_inputs}
@@ -33,6 +33,7 @@ use Rattle.jq_meaning.proofs.shared.machine.RunLaws.{bind-one, bind-bind}
 use Rattle.jq_single.proofs.Binding.{bind-known}
 use Rattle.jq_meaning.specs.machine.Operations.{path_item}
 use Rattle.jq_meaning.proofs.shared.machine.ShapeLaws.{paths-bind}
+use Rattle.jq_single.specs.declared.scopes.Scope.TheVariants as scope
 use Rattle.jq_ast.specs.declared.tree.Tree as ast
 use Rattle.jq_ast.specs.declared.tree.Tree.TheVariants as code
 use Rattle.jq_tree.specs.Tree as tree
@@ -69,7 +70,7 @@ value_past n [] ts caller own = refl
 value_past n (p ∷ ps) no_trees caller own = refl
 value_past n (p ∷ ps) (more_trees t ts) caller own = value_past n ps ts caller (bound (closure p t caller) own)
 
-pub prelude_past : (n : Name) (count : ℕ) (ps : List Name) (ts : Trees) (caller own : Env) → find_in_prelude n count (with_arguments ps ts caller own) ≡ find_in_prelude n count own
+prelude_past : (n : Name) (count : ℕ) (ps : List Name) (ts : Trees) (caller own : Env) → find_in_prelude n count (with_arguments ps ts caller own) ≡ find_in_prelude n count own
 prelude_past n count [] ts caller own = refl
 prelude_past n count (p ∷ ps) no_trees caller own = refl
 prelude_past n count (p ∷ ps) (more_trees t ts) caller own = prelude_past n count ps ts caller (bound (closure p t caller) own)
@@ -126,13 +127,20 @@ or-self (found_function ps t own) = refl
 or-self (found_closure t own) = refl
 or-self no_callee = refl
 
-pub or-same : (f x : Callee) → f ≡ x → callee_or f x ≡ x
-or-same f x e = ap (λ z. callee_or z x) e ∙ or-self x
-
-pub or-more : (r x y : Callee) → callee_or r x ≡ x → callee_or r (callee_or x y) ≡ callee_or x y
+or-more : (r x y : Callee) → callee_or r x ≡ x → callee_or r (callee_or x y) ≡ callee_or x y
 or-more (found_function ps t own) x y h = ap (λ z. callee_or z y) h
 or-more (found_closure t own) x y h = ap (λ z. callee_or z y) h
 or-more no_callee x y h = refl
+
+-- what the environment of the run finds, every scope in it finds
+pub prelude_outside : (inputs : Run Value) (n : Name) (count : ℕ) (s : Scope)
+    → callee_or (find_in_prelude n count (scope_env inputs (scope.Run (outside_in s)))) (find_in_prelude n count (scope_env inputs s)) ≡ find_in_prelude n count (scope_env inputs s)
+prelude_outside inputs n count (scope.Run o) = or-self (find_in_prelude n count (scope_env inputs (scope.Run o)))
+prelude_outside inputs n count (scope.Value' p outer name v) = prelude_outside inputs n count outer
+prelude_outside inputs n count (scope.Function' p outer f) = or-more (find_in_prelude n count (scope_env inputs (scope.Run (outside_in outer)))) (find_in_prelude n count (scope_env inputs outer)) _ (prelude_outside inputs n count outer)
+prelude_outside inputs n count (scope.Call' p own f ts q caller) =
+    subst (λ (x : Callee). callee_or (find_in_prelude n count (scope_env inputs (scope.Run (outside_in own)))) x ≡ x)
+    (sym (prelude_past n count (map text_of f.now.parameters.items) (trees_of (map named ts.now.items)) (scope_env inputs caller) (scope_env inputs own))) (prelude_outside inputs n count own)
 
 pub prelude_runs : (p : Context) (inputs : Run Value) (level : ℕ) (n : Name) (ts : List ast.Tree) (f : Function ast.Tree) (own : Scope) (x : Item)
     → callees.found f (scope_env inputs own) ≡ find_in_prelude n (length ts) (scope_env inputs p.scope.now)

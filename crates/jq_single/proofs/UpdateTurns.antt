@@ -19,7 +19,11 @@ use Rattle.jq_tree.specs.Tree.{Name, Tree, Trees, no_trees, more_trees, trees_of
 use Rattle.jq_tree.specs.WrittenOut.{modify}
 use Rattle.jq_natives.specs.Answers.{Answer}
 use Rattle.jq_natives.specs.PathNatives.{getpath_native_of, setpath_native_of}
-use Rattle.jq_meaning.specs.Env.{Env, bound, closure, with_arguments}
+use Rattle.jq_meaning.specs.Env.{Env, bound, closure, function, value_of, with_arguments}
+use Rattle.jv_data.specs.Text.{text_of}
+use Rattle.jq_single.specs.private.Scopes.{outside_in, scope_env}
+use Rattle.jq_single.specs.declared.scopes.Scope.{Scope}
+use Rattle.jq_single.specs.declared.scopes.Scope.TheVariants as scope
 use Rattle.jq_meaning.specs.Meaning.{meaning}
 use Rattle.jq_meaning.specs.updates.Known.{HasModify}
 use Rattle.jq_meaning.specs.laws.Updates.{ModifyStays}
@@ -67,10 +71,19 @@ pub two_calls_deep : (depth d : ℕ) (f g : Tree) (e : Env) (k : ℕ) (v : Value
 two_calls_deep depth d f g e k v h = ap (λ n. update_run n f g e k (plain v)) h
 
 -- the arguments of a call leave `_modify` alone
-pub modify_in_call : ModifyStays → (ps : List Name) (ts : Trees) (caller own : Env) → HasModify own → HasModify (with_arguments ps ts caller own)
+modify_in_call : ModifyStays → (ps : List Name) (ts : Trees) (caller own : Env) → HasModify own → HasModify (with_arguments ps ts caller own)
 modify_in_call stays [] ts caller own h = h
 modify_in_call stays (p ∷ ps) no_trees caller own h = h
 modify_in_call stays (p ∷ ps) (more_trees t ts) caller own h = modify_in_call stays ps ts caller (bound (closure p t caller) own) (stays (closure p t caller) own h)
+
+-- so does every scope
+pub modify_outside : ModifyStays → (inputs : Run Value) (s : Scope) → HasModify (scope_env inputs (scope.Run (outside_in s))) → HasModify (scope_env inputs s)
+modify_outside stays inputs (scope.Run o) h = h
+modify_outside stays inputs (scope.Value' p outer name v) h = stays (value_of (text_of name.now) (view v.now)) (scope_env inputs outer) (modify_outside stays inputs outer h)
+modify_outside stays inputs (scope.Function' p outer f) h =
+    stays (function (text_of f.now.name) (map text_of f.now.parameters.items) (named f.now.body)) (scope_env inputs outer) (modify_outside stays inputs outer h)
+modify_outside stays inputs (scope.Call' p own f ts q caller) h =
+    modify_in_call stays (map text_of f.now.parameters.items) (trees_of (map named ts.now.items)) (scope_env inputs caller) (scope_env inputs own) (modify_outside stays inputs own h)
 
 -- ---- the paths
 

@@ -6,10 +6,9 @@ ghost use Rattle.jq_ast.specs.Named.{name_of, named};
 ghost use Rattle.jq_tree.specs.Tree.{trees_of};
 ghost use Rattle.jq_meaning.specs.Runs.{Run};
 ghost use Rattle.jq_state.specs.Environments.{count_of, envs_of};
-ghost use Rattle.jq_single.specs.private.Scopes.{scope_env};
+ghost use Rattle.jq_single.specs.private.Scopes.{outside_in, scope_env};
 ghost use Rattle.jq_single.specs.private.Finds.{FindsBound, FindsInPrelude, found_in};
 ghost use Rattle.jq_single.specs.private.Parts.{Calls, RunsTo};
-ghost use Rattle.jq_state.specs.Nodes.{env_at};
 ghost use Rattle.jq_meaning.specs.updates.Known.{HasModify};
 ghost use Rattle.jq_operations.specs.Callees.{CalleeFits, callee_in};
 ghost use Rattle.jv_data.specs.Kind.{kind_name};
@@ -121,20 +120,26 @@ fn argument_of<'s>(
     }
 }
 
+// The environment of the run in which a scope's bindings are.
+fn outside_of<'s>(scope: &Scope<'s>) -> Outside<'s>
+    ensures { result ≡ outside_in scope.now }
+{
+    match scope {
+        Scope::Run(outside) => *outside,
+        Scope::Value(outer, _, _) => outside_of(outer),
+        Scope::Function(outer, _) => outside_of(outer),
+        Scope::Call(own, _, _, _) => outside_of(own),
+    }
+}
+
 // The prelude's own function with this name and this number of arguments, whatever is defined later. If a scope outside of the run's
 // environment would have to define it, nothing is found.
 fn prelude_of<'s>(scope: &Scope<'s>, name: &Name, count: usize) -> Found<'s>
     ensures { FindsInPrelude (name_of name.now) count scope.now result }
 {
-    match scope {
-        Scope::Run(outside) => {
-            let nodes = outside.nodes;
-            of_the_run(nodes, find_in_prelude(nodes, name, count, outside.env))
-        }
-        Scope::Value(outer, _, _) => prelude_of(outer, name, count),
-        Scope::Function(outer, _) => prelude_of(outer, name, count),
-        Scope::Call(own, _, _, _) => prelude_of(own, name, count),
-    }
+    let outside = outside_of(scope);
+    let nodes = outside.nodes;
+    of_the_run(nodes, find_in_prelude(nodes, name, count, outside.env))
 }
 
 // What a call finds in an environment of the run.
@@ -162,17 +167,7 @@ pub(crate) fn has_modify(scope: &Scope<'_>) -> bool
     ensures { IsTrue result → (inputs : Run Value) → ∥ HasModify (scope_env inputs scope.now) ∥₁ }
 {
     the_preludes_update_stays();
-    match scope {
-        Scope::Run(outside) => modify_of_the_run(outside),
-        Scope::Value(outer, _, _) => has_modify(outer),
-        Scope::Function(outer, _) => has_modify(outer),
-        Scope::Call(own, _, _, _) => has_modify(own),
-    }
-}
-
-fn modify_of_the_run(outside: &Outside<'_>) -> bool
-    ensures { IsTrue result → (inputs : Run Value) → ∥ HasModify (env_at (envs_of inputs outside.now.nodes.now) outside.now.env) ∥₁ }
-{
+    let outside = outside_of(scope);
     jq_operations::has_modify(outside.nodes, outside.env)
 }
 
