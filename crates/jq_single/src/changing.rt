@@ -6,7 +6,7 @@ ghost use Rattle.jq_ast.specs.Named.{named, named_as_pattern};
 ghost use Rattle.jq_state.specs.Environments.{count_of};
 ghost use Rattle.jq_operations.specs.Entering.{defined};
 ghost use Rattle.jq_single.specs.Single.{Changes, Keeps, Changed};
-ghost use Rattle.jq_single.specs.private.Parts.{ChangesTo, Calls, ChangesBelow, ChangesByBuiltin, ChangesByNative, RunsBuiltin};
+ghost use Rattle.jq_single.specs.private.Parts.{ChangesTo, Calls, ChangesBelow, ChangesByBuiltin, ChangesByNative};
 ghost use Rattle.jv_data.specs.Value.{Value};
 ghost use Rattle.jq_meaning.specs.Continuations.{on_left};
 ghost use Rattle.jq_meaning.specs.Runs.{plain, Run};
@@ -104,15 +104,19 @@ impl<'s> Context<'s> {
             Tree::Reduce(source, pattern, start, update) => {
                 self.change_reduce(source, pattern, start, update, value)
             }
-            Tree::Pipe(first, _) => self.change_after(tree, first, value),
+            // If `f` of `f | g` may change its input, the machine runs the filter: here the input has to be kept until `g` has run,
+            // so `f` would copy it.
+            Tree::Pipe(first, _) if !self.kept && !goes_over_all(first) && !is_cheap(value) => {
+                Err(Stop::Unknown)
+            }
             _ => self.change_kept(tree, value),
         }
     }
 
-    /// The value is kept until the output is known.
+    // The value is kept until the output is known.
     #[cycle(single)]
     #[inline(never)]
-    pub(crate) fn change_kept(&self, tree: &'s Tree, value: &mut Val) -> Result<(), Stop>
+    fn change_kept(&self, tree: &'s Tree, value: &mut Val) -> Result<(), Stop>
         ensures runs { ChangesTo self.now (named tree.now) (view value.old) (view value.new) result }
         ensures keeps { Keeps result (view value.old) (view value.new) }
     {
@@ -122,21 +126,6 @@ impl<'s> Context<'s> {
                 Ok(())
             }
             Err(stop) => Err(stop),
-        }
-    }
-
-    // `f | g`: if `f` may change its input, the machine runs the filter: here the input has to be kept
-    // until `g` has run, so `f` would copy it.
-    #[cycle(single)]
-    #[inline(never)]
-    fn change_after(&self, tree: &'s Tree, first: &Tree, value: &mut Val) -> Result<(), Stop>
-        ensures runs { ChangesTo self.now (named tree.now) (view value.old) (view value.new) result }
-        ensures keeps { Keeps result (view value.old) (view value.new) }
-    {
-        if self.kept || goes_over_all(first) || is_cheap(value) {
-            self.change_kept(tree, value)
-        } else {
-            Err(Stop::Unknown)
         }
     }
 
@@ -255,27 +244,6 @@ pub(crate) fn operate_in_place(
 }
 
 impl<'s> Context<'s> {
-    /// The answer of a name of the language on a value that is kept replaces a copy of it.
-    #[cycle(single)]
-    pub(crate) fn get_builtin(
-        &self,
-        builtin: Builtin,
-        arguments: &'s [Tree],
-        value: &Val,
-    ) -> Result<Val, Stop>
-        ensures { RunsBuiltin self.now (meaning_of builtin) (trees_of (map named arguments.now)) (view value.now) result }
-    {
-        let inside = Context {
-            kept: true,
-            ..*self
-        };
-        let mut output = value.copy()?;
-        match inside.change_builtin(builtin, arguments, &mut output) {
-            Ok(()) => Ok(output),
-            Err(stop) => Err(stop),
-        }
-    }
-
     /// A call, by what it finds.
     #[cycle(single)]
     #[inline(never)]
@@ -316,10 +284,10 @@ impl<'s> Context<'s> {
         inside.change(&*body, value)
     }
 
-    // A name of the language whose answer replaces the value. `setpath` and `delpaths` would copy a value that is kept, so they
-    // are not run at once on one.
+    /// A name of the language whose answer replaces the value. `setpath` and `delpaths` would copy a value that is kept, so they
+    /// are not run at once on one.
     #[cycle(single)]
-    fn change_builtin(
+    pub(crate) fn change_builtin(
         &self,
         builtin: Builtin,
         arguments: &'s [Tree],

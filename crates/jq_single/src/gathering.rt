@@ -284,7 +284,7 @@ impl<'s> Context<'s> {
         inside.gather(&*body, item, &*rest, into)
     }
 
-    // A name of the language. On an item with a path it is not run at once.
+    // A name of the language, whose answer replaces a copy of the input. On an item with a path it is not run at once.
     #[cycle(single)]
     #[inline(never)]
     fn gather_builtin(
@@ -303,13 +303,17 @@ impl<'s> Context<'s> {
         match builtin {
             Builtin::Range => self.gather_range(arguments, &item.value, rest, into),
             Builtin::Paths => self.gather_paths(arguments, &item.value, rest, into),
-            _ => match self.get_builtin(builtin, arguments, &item.value) {
-                Ok(found) => {
-                    let output = Item::plain(found);
-                    self.give(output, rest, into)
+            _ => {
+                let inside = Context {
+                    kept: true,
+                    ..*self
+                };
+                let mut found = item.value.copy()?;
+                match inside.change_builtin(builtin, arguments, &mut found) {
+                    Ok(()) => self.give(Item::plain(found), rest, into),
+                    Err(stop) => ended(stop),
                 }
-                Err(stop) => ended(stop),
-            },
+            }
         }
     }
 }

@@ -66,9 +66,6 @@ builtin_in p inputs level b ts x =
 abbrev pub native_in : Context → Run Value → (level : ℕ) → Native → Trees → Value → Run Item
 native_in p inputs level f ts v = each_choice (arguments_with (below p.depth) ts (scope_env inputs p.scope.now) level (plain v)) (plain_native f v)
 
-abbrev pub RunsBuiltin : Context → Builtin → Trees → Value → Result Val Stop → Type 0
-RunsBuiltin p b ts v result = (inputs : Run Value) (level : ℕ) → Answers result (builtin_in p inputs level b ts (plain v))
-
 -- The answer replaces the value.
 abbrev pub ChangesByBuiltin : {A : Type 0} → Context → Builtin → Trees → (before later : Value) → Result A Stop → Type 0
 ChangesByBuiltin p b ts v w result = (inputs : Run Value) (level : ℕ) → Changed result w (builtin_in p inputs level b ts (plain v))

@@ -283,14 +283,6 @@ change_call-returns-in-Builtin-clause-runs t c = λ tree calls inputs level.
     (ap (λ us. builtin_in p inputs level (meaning_of c.in-Builtin.builtin) (trees_of (map named us)) x) c.as_slice.ensures.value ∙ sym (subst (Calls p tree c.args.arguments.now.items) c.in-Builtin.is calls inputs level x))
     (c.change_builtin.ensures.runs inputs level)
 
-pub get_builtin-returns-in-Ok : goal.get_builtin-returns-in-Ok
-get_builtin-returns-in-Ok t c = λ inputs level.
-    ap (λ (v : Value). builtin_in c.args.self.now inputs level (meaning_of c.args.builtin) (trees_of (map named c.args.arguments.now)) (plain v)) (sym c.in_ok-output.ensures) ∙ c.in-Ok.ensures.runs inputs level
-
-pub get_builtin-returns-in-Err : goal.get_builtin-returns-in-Err
-get_builtin-returns-in-Err t c = λ inputs level.
-    subst (λ (v : Value). Ends c.in-Err.stop (builtin_in c.args.self.now inputs level (meaning_of c.args.builtin) (trees_of (map named c.args.arguments.now)) (plain v))) c.in_ok-output.ensures (c.in-Err.ensures.runs inputs level)
-
 pub change_body-returns-clause-runs : goal.change_body-returns-clause-runs
 change_body-returns-clause-runs t c = λ inputs level.
     let depth = c.args.self.now.depth in
@@ -586,17 +578,17 @@ pub gather_builtin-returns-in-Ok : goal.gather_builtin-returns-in-Ok
 gather_builtin-returns-in-Ok t c = λ inputs level.
     let go : Item → Run Item = builtin_in c.args.self.now inputs level (meaning_of c.args.builtin) (trees_of (map named c.args.arguments.now)) in
     subst (λ r. Gathers (made inputs level c.args.rest.now) c.give.result c.args.into.now.items c.give.new.into.items (bind r (rest_run inputs level c.args.rest.now)))
-    (ap one c.plain-output.ensures ∙ sym (ap go (absent c.args.item.now (sym c.is_present.ensures ∙ c.if-is_present.false)) ∙ c.in-Ok.ensures inputs level))
+    (ap one c.plain.ensures
+    ∙ sym (ap go (absent c.args.item.now (sym c.is_present.ensures ∙ c.if-is_present.false)) ∙ ap (λ (v : Value). go (plain v)) (sym c.in_ok-found.ensures) ∙ c.in-Ok.ensures.runs inputs level))
     (c.give.ensures inputs level)
 
 pub gather_builtin-returns-in-Err : goal.gather_builtin-returns-in-Err
 gather_builtin-returns-in-Err t c = λ inputs level.
     let go : Item → Run Item = builtin_in c.args.self.now inputs level (meaning_of c.args.builtin) (trees_of (map named c.args.arguments.now)) in
-    let r = go (item_of c.args.item.now) in
-    let later : Item → Run Item = rest_run inputs level c.args.rest.now in
-    c.ended.ensures inputs level c.args.rest.now (bind r later) c.args.into.now.items
-    (ends-bind c.in-Err.stop r later
-    (subst (λ (x : Item). Ends c.in-Err.stop (go x)) (sym (absent c.args.item.now (sym c.is_present.ensures ∙ c.if-is_present.false))) (c.in-Err.ensures inputs level)))
+    let x = item_of c.args.item.now in
+    c.ended.ensures inputs level c.args.rest.now (bind (go x) (rest_run inputs level c.args.rest.now)) c.args.into.now.items
+    (ends-bind c.in-Err.stop (go x) (rest_run inputs level c.args.rest.now)
+    (subst (λ (y : Item). Ends c.in-Err.stop (go y)) (ap plain c.in_ok-found.ensures ∙ sym (absent c.args.item.now (sym c.is_present.ensures ∙ c.if-is_present.false))) (c.in-Err.ensures.runs inputs level)))
 
 pub gather_paths-returns-in_ok-start-in-len1 : goal.gather_paths-returns-in_ok-start-in-len1
 gather_paths-returns-in_ok-start-in-len1 t c = λ inputs level.

@@ -52,9 +52,6 @@ decreases-or l = 32 * l.self.now.fuel + 4
 abbrev pub decreases-get_truth : goal.decreases-get_truth
 decreases-get_truth l = 32 * l.self.now.fuel + 3
 
-abbrev pub decreases-get_builtin : goal.decreases-get_builtin
-decreases-get_builtin l = 32 * l.self.now.fuel + 11
-
 abbrev pub decreases-alternative : goal.decreases-alternative
 decreases-alternative l = 32 * l.self.now.fuel + 3
 
@@ -108,9 +105,6 @@ decreases-change_form l = 32 * l.self.now.fuel + 16
 
 abbrev pub decreases-change_kept : goal.decreases-change_kept
 decreases-change_kept l = 32 * l.self.now.fuel + 14
-
-abbrev pub decreases-change_after : goal.decreases-change_after
-decreases-change_after l = 32 * l.self.now.fuel + 15
 
 abbrev pub decreases-change_binary : goal.decreases-change_binary
 decreases-change_binary l = 32 * l.self.now.fuel + 4
