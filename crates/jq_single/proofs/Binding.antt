@@ -14,7 +14,7 @@ use Rattle.jq_single.specs.Single.{Ends, Changed, Keeps, Leaves}
 use Rattle.jq_single.specs.private.Gathering.{GoesOn, Gathers, GathersAll, given_of, made, rest_run, folded, last_or, state_in, turn}
 use Rattle.jv_data.specs.declared.containers.texts.SharedText.{SharedText}
 use Rattle.jq_single.specs.private.Making.{TextAnswers}
-use Rattle.jq_single.specs.private.Parts.{Answers, IsUntold, run}
+use Rattle.jq_single.specs.private.Parts.{Answers, IsUntold, RunsTo, run}
 use Rattle.jq_single.specs.declared.stops.Stop.{Stop}
 use Rattle.std.proofs.lemmas.List.{append-nil, map-append, reverse-append}
 use Rattle.jv_data.proofs.shared.Items.{values_of-items_of}
@@ -68,6 +68,10 @@ leaves_same stop.Unknown v = refl
 pub stops : (a : Result Val Stop) (s : Stop) (r : Run Item) → IsErrAnd a (λ e. e ≡ s) → Ends s r → Answers a r
 stops (Ok v) s r h k = absurd h
 stops (Err e) s r h k = subst (λ z. Ends z r) (sym h) k
+
+pub fails : (a : Result Val Stop) (s : Stop) (p : Context) (t : Tree) (v : Value) (g : Item → Run Item) (inputs : Run Value) (level : ℕ) → IsErrAnd a (λ e. e ≡ s) → RunsTo p t v (Err s)
+    → Answers a (bind (run p inputs level t (plain v)) g)
+fails a s p t v g inputs level h k = stops a s (bind (run p inputs level t (plain v)) g) h (ends-bind s (run p inputs level t (plain v)) g (k inputs level))
 
 pub text-stops : (a : Result SharedText Stop) (s : Stop) (r : Run (List ℕ)) → IsErrAnd a (λ e. e ≡ s) → Ends s r → TextAnswers a r
 text-stops (Ok v) s r h k = absurd h

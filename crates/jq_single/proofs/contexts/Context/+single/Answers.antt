@@ -38,7 +38,7 @@ use Rattle.jq_meaning.specs.laws.Updating.{turn_of, turns}
 use Rattle.jq_single.specs.private.Parts.{Answers, Calls, ChangesTo, builtin_in, run}
 use Rattle.jq_single.specs.Single.{Changed, Ends}
 use Rattle.jq_single.specs.private.FirstOutputs.{first_alone}
-use Rattle.jq_single.proofs.Binding.{bind-known, ends-bind, ends-after, answers-bind, changed-bind, changed-stops, goes-changed, keeps-stops, leaves_same, stops, untold, and_goes, and_stops, or_goes, or_stops, truth_of, caught, with_variable, text-bind, text-stops, gathers-none, gathers-then, gathers-fail, gathers_all, gives_first, stops_first, stops-then, gathered_list, ends_gathered, bound_rest, picks_holds, picks_fails, fold_value, turned, fold_ends, single_fold}
+use Rattle.jq_single.proofs.Binding.{bind-known, ends-bind, fails, ends-after, answers-bind, changed-bind, changed-stops, goes-changed, keeps-stops, leaves_same, stops, untold, and_goes, and_stops, or_goes, or_stops, truth_of, caught, with_variable, text-bind, text-stops, gathers-none, gathers-then, gathers-fail, gathers_all, gives_first, stops_first, stops-then, gathered_list, ends_gathered, bound_rest, picks_holds, picks_fails, fold_value, turned, fold_ends, single_fold}
 use Rattle.jq_single.specs.declared.rests.Rest.{Rest}
 use Rattle.jq_single.specs.declared.rests.Rest.TheVariants as rest
 use Rattle.jq_single.proofs.UpdateTurns.{changed-first, first-then, changed-prop, getpath_keys, known_paths, listed_more, modify_tree, turn_lists, turn_raises, turn_sets, two_calls_deep}
@@ -80,8 +80,7 @@ get_changed-returns-in-Err t c = λ inputs level.
 
 pub field-returns-in_err-found : goal.field-returns-in_err-found
 field-returns-in_err-found t c = λ inputs level.
-    let r = run c.args.self.now inputs level (named c.args.target.now) (plain (view c.args.value.now)) in
-    stops c.from_residual.result c.in_err-found.field-0.0 _ c.from_residual.ensures.1 (ends-bind c.in_err-found.field-0.0 r (on_target c.args.guarded (view c.args.key.now)) (c.in_err-found.ensures inputs level))
+    fails c.from_residual.result c.in_err-found.field-0.0 c.args.self.now (named c.args.target.now) (view c.args.value.now) (on_target c.args.guarded (view c.args.key.now)) inputs level c.from_residual.ensures.1 c.in_err-found.ensures
 
 pub index-returns : goal.index-returns
 unfolding on_key
@@ -92,9 +91,7 @@ index-returns t c = λ inputs level.
 
 pub index-returns-in_err-at : goal.index-returns-in_err-at
 index-returns-in_err-at t c = λ inputs level.
-    let v = plain (view c.args.value.now) in
-    let go : Tree → Item → Run Item = run c.args.self.now inputs level in
-    stops c.from_residual.result c.in_err-at.field-0.0 _ c.from_residual.ensures.1 (ends-bind c.in_err-at.field-0.0 (go (named c.args.key.now) v) (on_key c.args.guarded (go (named c.args.target.now) v)) (c.in_err-at.ensures inputs level))
+    fails c.from_residual.result c.in_err-at.field-0.0 c.args.self.now (named c.args.key.now) (view c.args.value.now) (on_key c.args.guarded (run c.args.self.now inputs level (named c.args.target.now) (plain (view c.args.value.now)))) inputs level c.from_residual.ensures.1 c.in_err-at.ensures
 
 pub slice-returns : goal.slice-returns
 unfolding on_start on_end
@@ -109,12 +106,7 @@ slice-returns t c = λ inputs level.
 
 pub slice-returns-in_err-start : goal.slice-returns-in_err-start
 slice-returns-in_err-start t c = λ inputs level.
-    let v = plain (view c.args.value.now) in
-    let go : Tree → Run Item = λ u. run c.args.self.now inputs level u v in
-    let ends = go (named c.args.to.now) in
-    let targets = go (named c.args.target.now) in
-    stops c.from_residual.result c.in_err-start.field-0.0 _ c.from_residual.ensures.1
-    (ends-bind c.in_err-start.field-0.0 (go (named c.args.from.now)) (on_start c.args.guarded ends targets) (c.in_err-start.ensures inputs level))
+    fails c.from_residual.result c.in_err-start.field-0.0 c.args.self.now (named c.args.from.now) (view c.args.value.now) (on_start c.args.guarded (run c.args.self.now inputs level (named c.args.to.now) (plain (view c.args.value.now))) (run c.args.self.now inputs level (named c.args.target.now) (plain (view c.args.value.now)))) inputs level c.from_residual.ensures.1 c.in_err-start.ensures
 
 pub slice-returns-in_err-end : goal.slice-returns-in_err-end
 unfolding on_start
@@ -132,15 +124,11 @@ slice-returns-in_err-end t c = λ inputs level.
 
 pub pipe-returns-in_err-between : goal.pipe-returns-in_err-between
 pipe-returns-in_err-between t c = λ inputs level.
-    let v = plain (view c.args.value.now) in
-    let go : Tree → Item → Run Item = run c.args.self.now inputs level in
-    stops c.from_residual.result c.in_err-between.field-0.0 _ c.from_residual.ensures.1 (ends-bind c.in_err-between.field-0.0 (go (named c.args.first.now) v) (go (named c.args.second.now)) (c.in_err-between.ensures inputs level))
+    fails c.from_residual.result c.in_err-between.field-0.0 c.args.self.now (named c.args.first.now) (view c.args.value.now) (run c.args.self.now inputs level (named c.args.second.now)) inputs level c.from_residual.ensures.1 c.in_err-between.ensures
 
 pub negation-returns-in_err-found : goal.negation-returns-in_err-found
 negation-returns-in_err-found t c = λ inputs level.
-    let v = plain (view c.args.value.now) in
-    let go : Tree → Item → Run Item = run c.args.self.now inputs level in
-    stops c.from_residual.result c.in_err-found.field-0.0 _ c.from_residual.ensures.1 (ends-bind c.in_err-found.field-0.0 (go (named c.args.operand.now) v) (negated) (c.in_err-found.ensures inputs level))
+    fails c.from_residual.result c.in_err-found.field-0.0 c.args.self.now (named c.args.operand.now) (view c.args.value.now) negated inputs level c.from_residual.ensures.1 c.in_err-found.ensures
 
 -- ---- conditions
 
@@ -152,9 +140,7 @@ get_truth-returns t c = λ inputs level.
 
 pub get_truth-returns-in_err-output : goal.get_truth-returns-in_err-output
 get_truth-returns-in_err-output t c = λ inputs level.
-    let v = plain (view c.args.value.now) in
-    let go : Tree → Item → Run Item = run c.args.self.now inputs level in
-    stops c.from_residual.result c.in_err-output.field-0.0 _ c.from_residual.ensures.1 (ends-bind c.in_err-output.field-0.0 (go (named c.args.tree.now) v) (truth) (c.in_err-output.ensures inputs level))
+    fails c.from_residual.result c.in_err-output.field-0.0 c.args.self.now (named c.args.tree.now) (view c.args.value.now) truth inputs level c.from_residual.ensures.1 c.in_err-output.ensures
 
 pub and-returns-then-truth : goal.and-returns-then-truth
 and-returns-then-truth t c = λ inputs level.
@@ -173,9 +159,7 @@ and-returns t c = λ inputs level.
 
 pub and-returns-in_err-first : goal.and-returns-in_err-first
 and-returns-in_err-first t c = λ inputs level.
-    let v = plain (view c.args.value.now) in
-    let go : Tree → Item → Run Item = run c.args.self.now inputs level in
-    stops c.from_residual.result c.in_err-first.field-0.0 _ c.from_residual.ensures.1 (ends-bind c.in_err-first.field-0.0 (go (named c.args.left.now) v) (on_conjunct (go (named c.args.right.now)) v) (c.in_err-first.ensures inputs level))
+    fails c.from_residual.result c.in_err-first.field-0.0 c.args.self.now (named c.args.left.now) (view c.args.value.now) (on_conjunct (run c.args.self.now inputs level (named c.args.right.now)) (plain (view c.args.value.now))) inputs level c.from_residual.ensures.1 c.in_err-first.ensures
 
 pub or-returns : goal.or-returns
 or-returns t c = λ inputs level.
@@ -194,9 +178,7 @@ or-returns-then-truth t c = λ inputs level.
 
 pub or-returns-in_err-first : goal.or-returns-in_err-first
 or-returns-in_err-first t c = λ inputs level.
-    let v = plain (view c.args.value.now) in
-    let go : Tree → Item → Run Item = run c.args.self.now inputs level in
-    stops c.from_residual.result c.in_err-first.field-0.0 _ c.from_residual.ensures.1 (ends-bind c.in_err-first.field-0.0 (go (named c.args.left.now) v) (on_disjunct (go (named c.args.right.now)) v) (c.in_err-first.ensures inputs level))
+    fails c.from_residual.result c.in_err-first.field-0.0 c.args.self.now (named c.args.left.now) (view c.args.value.now) (on_disjunct (run c.args.self.now inputs level (named c.args.right.now)) (plain (view c.args.value.now))) inputs level c.from_residual.ensures.1 c.in_err-first.ensures
 
 -- ---- `//` and `try`
 
@@ -789,12 +771,7 @@ keyed-returns t c = λ inputs level. rw c.into_text.ensures (c.member.ensures in
 
 pub computed-returns-in_err-found : goal.computed-returns-in_err-found
 computed-returns-in_err-found t c = λ inputs level.
-    let p = c.args.self.now in
-    let v = view c.args.value.now in
-    let later : Members → Run Item = entries_in p inputs level (named_entries c.args.later.now) v in
-    let filter = run p inputs level (named c.args.filter.now) (plain v) in
-    stops c.from_residual.result c.in_err-found.field-0.0 _ c.from_residual.ensures.1
-    (ends-bind c.in_err-found.field-0.0 (run p inputs level (named c.args.key.now) (plain v)) (on_entry_key filter later (members_in c.args.made)) (c.in_err-found.ensures inputs level))
+    fails c.from_residual.result c.in_err-found.field-0.0 c.args.self.now (named c.args.key.now) (view c.args.value.now) (on_entry_key (run c.args.self.now inputs level (named c.args.filter.now) (plain (view c.args.value.now))) (entries_in c.args.self.now inputs level (named_entries c.args.later.now) (view c.args.value.now)) (members_in c.args.made)) inputs level c.from_residual.ensures.1 c.in_err-found.ensures
 
 pub member-returns : goal.member-returns
 unfolding on_entry
@@ -809,12 +786,7 @@ member-returns t c = λ inputs level.
 
 pub member-returns-in_err-found : goal.member-returns-in_err-found
 member-returns-in_err-found t c = λ inputs level.
-    let p = c.args.self.now in
-    let v = view c.args.value.now in
-    let later : Members → Run Item = entries_in p inputs level (named_entries c.args.later.now) v in
-    let filter = run p inputs level (named c.args.filter.now) (plain v) in
-    stops c.from_residual.result c.in_err-found.field-0.0 _ c.from_residual.ensures.1
-    (ends-bind c.in_err-found.field-0.0 filter (on_entry later (members_in c.args.made) (text_in c.args.key.now)) (c.in_err-found.ensures inputs level))
+    fails c.from_residual.result c.in_err-found.field-0.0 c.args.self.now (named c.args.filter.now) (view c.args.value.now) (on_entry (entries_in c.args.self.now inputs level (named_entries c.args.later.now) (view c.args.value.now)) (members_in c.args.made) (text_in c.args.key.now)) inputs level c.from_residual.ensures.1 c.in_err-found.ensures
 
 -- ---- folds
 
