@@ -220,30 +220,7 @@ impl<'s> Context<'s> {
             _ => Err(Stop::Unknown),
         }
     }
-}
 
-/// The answer of an operator replaces the left value. `+` changes a left value that is not shared in place.
-pub(crate) fn operate_in_place(
-    alloc: Global,
-    operator: Operator,
-    left: &mut Val,
-    right: &Val,
-) -> Result<(), Stop>
-    ensures runs { Changed result (view left.new) (on_left (operator_of operator) (view right.now) (plain (view left.old))) }
-    ensures keeps { (v : Value) → Keeps result v (view left.new) }
-{
-    let taken = replace(left, Val::Null);
-    match operated(alloc, operator, taken, right) {
-        Ok(found) => {
-            *left = found;
-            Ok(())
-        }
-        Err(Fail::Raised(error)) => Err(Stop::Raised(error)),
-        Err(Fail::NoMemory) => Err(Stop::NoMemory),
-    }
-}
-
-impl<'s> Context<'s> {
     /// A call, by what it finds.
     #[cycle(single)]
     #[inline(never)]
@@ -330,6 +307,27 @@ impl<'s> Context<'s> {
             }
             _ => Err(Stop::Unknown),
         }
+    }
+}
+
+/// The answer of an operator replaces the left value. `+` changes a left value that is not shared in place.
+pub(crate) fn operate_in_place(
+    alloc: Global,
+    operator: Operator,
+    left: &mut Val,
+    right: &Val,
+) -> Result<(), Stop>
+    ensures runs { Changed result (view left.new) (on_left (operator_of operator) (view right.now) (plain (view left.old))) }
+    ensures keeps { (v : Value) → Keeps result v (view left.new) }
+{
+    let taken = replace(left, Val::Null);
+    match operated(alloc, operator, taken, right) {
+        Ok(found) => {
+            *left = found;
+            Ok(())
+        }
+        Err(Fail::Raised(error)) => Err(Stop::Raised(error)),
+        Err(Fail::NoMemory) => Err(Stop::NoMemory),
     }
 }
 

@@ -64,6 +64,30 @@ impl<'s> Context<'s> {
             _ => Found::Nothing,
         }
     }
+
+    /// The result of an operator, if it compares `type` with a constant.
+    #[inline(never)]
+    pub(crate) fn compared(
+        &self,
+        operator: Operator,
+        left: &Tree,
+        right: &Tree,
+        value: &Val,
+    ) -> Option<bool>
+        ensures { IfSome result (λ b. RunsTo self.now (form.binary (operator_of operator) (named left.now) (named right.now)) (view value.now) (Ok (val.Bool b))) }
+    {
+        let Tree::Literal(constant) = right else {
+            return None;
+        };
+        let Some(name) = name_alone(left) else {
+            return None;
+        };
+        if is_type(self.scope, name) {
+            kind_told(operator, value, constant_of(constant))
+        } else {
+            None
+        }
+    }
 }
 
 /// The innermost function or parameter with this name and this number of arguments.
@@ -186,32 +210,6 @@ pub(crate) fn value_of(scope: &Scope<'_>, name: &Name) -> Result<Val, NoMemory>
         }
         Scope::Function(outer, _) => value_of(outer, name),
         Scope::Call(own, _, _, _) => value_of(own, name),
-    }
-}
-
-impl<'s> Context<'s> {
-    /// The result of an operator, if it compares `type` with a constant.
-    #[inline(never)]
-    pub(crate) fn compared(
-        &self,
-        operator: Operator,
-        left: &Tree,
-        right: &Tree,
-        value: &Val,
-    ) -> Option<bool>
-        ensures { IfSome result (λ b. RunsTo self.now (form.binary (operator_of operator) (named left.now) (named right.now)) (view value.now) (Ok (val.Bool b))) }
-    {
-        let Tree::Literal(constant) = right else {
-            return None;
-        };
-        let Some(name) = name_alone(left) else {
-            return None;
-        };
-        if is_type(self.scope, name) {
-            kind_told(operator, value, constant_of(constant))
-        } else {
-            None
-        }
     }
 }
 

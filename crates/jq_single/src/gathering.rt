@@ -316,9 +316,7 @@ impl<'s> Context<'s> {
             }
         }
     }
-}
 
-impl<'s> Context<'s> {
     /// Runs the rest of the filter on an output.
     #[cycle(single)]
     pub(crate) fn give(&self, item: Item, rest: &Rest<'s>, into: &mut Vec<Val>) -> Result<(), Stop>
@@ -430,39 +428,7 @@ impl<'s> Context<'s> {
         }
         Ok(())
     }
-}
 
-// Adds the value of an item to a list.
-fn add(into: &mut Vec<Val>, item: Item) -> Result<(), NoMemory>
-    ensures { OnOk result (map view into.new.items ≡ map view into.old.items ++ value_in (item_of item) ∷ []) }
-{
-    into.push(item.value)?;
-    Ok(())
-}
-
-/// A run without output has ended, or ends with an error, whatever the rest of the filter is.
-pub(crate) fn ended(stop: Stop) -> Result<(), Stop>
-    ensures { (inputs : Run Value) (level : ℕ) (later : Rest) (r : Run runs.Item) (xs : List Val) → Ends stop r → Gathers (made inputs level later) result xs xs r }
-{
-    match stop {
-        Stop::Nothing => Ok(()),
-        Stop::Raised(error) => Err(Stop::Raised(error)),
-        Stop::NoMemory => Err(Stop::NoMemory),
-        Stop::Unknown => Err(Stop::Unknown),
-    }
-}
-
-// Takes the first item, which is the last element of the vector.
-fn take_last(items: &mut Vec<Item>) -> Option<Item>
-    ensures { MatchOption result (given_of items.old.items ≡ none) (λ x. given_of items.old.items ≡ before (item_of x ∷ []) (given_of items.new.items)) }
-{
-    match items.pop() {
-        Some(item) => Some(item),
-        None => None,
-    }
-}
-
-impl<'s> Context<'s> {
     /// `f.a` on an item with a path.
     #[cycle(single)]
     #[inline(never)]
@@ -525,18 +491,7 @@ impl<'s> Context<'s> {
             _ => Err(Stop::Unknown),
         }
     }
-}
 
-/// A value with an empty path.
-pub(crate) fn start_at(alloc: Global, value: &Val) -> Result<Item, NoMemory>
-    ensures { IfOk result (λ x. item_of x ≡ located (view value.now) []) }
-{
-    let value = value.copy()?;
-    let path = Path::empty(alloc)?;
-    Ok(Item { value, path })
-}
-
-impl<'s> Context<'s> {
     /// `range(f; g)`, where f and g have at most one output.
     #[cycle(single)]
     #[inline(never)]
@@ -599,6 +554,45 @@ impl<'s> Context<'s> {
         }
         Ok(())
     }
+}
+
+// Adds the value of an item to a list.
+fn add(into: &mut Vec<Val>, item: Item) -> Result<(), NoMemory>
+    ensures { OnOk result (map view into.new.items ≡ map view into.old.items ++ value_in (item_of item) ∷ []) }
+{
+    into.push(item.value)?;
+    Ok(())
+}
+
+/// A run without output has ended, or ends with an error, whatever the rest of the filter is.
+pub(crate) fn ended(stop: Stop) -> Result<(), Stop>
+    ensures { (inputs : Run Value) (level : ℕ) (later : Rest) (r : Run runs.Item) (xs : List Val) → Ends stop r → Gathers (made inputs level later) result xs xs r }
+{
+    match stop {
+        Stop::Nothing => Ok(()),
+        Stop::Raised(error) => Err(Stop::Raised(error)),
+        Stop::NoMemory => Err(Stop::NoMemory),
+        Stop::Unknown => Err(Stop::Unknown),
+    }
+}
+
+// Takes the first item, which is the last element of the vector.
+fn take_last(items: &mut Vec<Item>) -> Option<Item>
+    ensures { MatchOption result (given_of items.old.items ≡ none) (λ x. given_of items.old.items ≡ before (item_of x ∷ []) (given_of items.new.items)) }
+{
+    match items.pop() {
+        Some(item) => Some(item),
+        None => None,
+    }
+}
+
+/// A value with an empty path.
+pub(crate) fn start_at(alloc: Global, value: &Val) -> Result<Item, NoMemory>
+    ensures { IfOk result (λ x. item_of x ≡ located (view value.now) []) }
+{
+    let value = value.copy()?;
+    let path = Path::empty(alloc)?;
+    Ok(Item { value, path })
 }
 
 // Takes the number out of `next` and puts in the one after it, if it is before `end`.

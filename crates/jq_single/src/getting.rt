@@ -114,9 +114,7 @@ impl<'s> Context<'s> {
             Err(stop) => Err(stop),
         }
     }
-}
 
-impl<'s> Context<'s> {
     /// `f.a`, or the part of the output of a filter at a key that is known.
     #[cycle(single)]
     #[inline(never)]
@@ -167,20 +165,7 @@ impl<'s> Context<'s> {
         let bounds = slice_key(self.alloc, start, end)?;
         self.field(target, &bounds, guarded, value)
     }
-}
 
-// The part of a value at a key.
-fn part_at(alloc: Global, guarded: bool, target: &Val, key: &Val) -> Result<Val, Stop>
-    ensures { Answers result (on_target guarded (view key.now) (plain (view target.now))) }
-{
-    match index(alloc, target, key) {
-        Ok(part) => Ok(part),
-        Err(Fail::Raised(error)) => Err(refused(guarded, error)),
-        Err(Fail::NoMemory) => Err(Stop::NoMemory),
-    }
-}
-
-impl<'s> Context<'s> {
     /// `f | g`.
     #[cycle(single)]
     #[inline(never)]
@@ -213,16 +198,7 @@ impl<'s> Context<'s> {
         (&*self).gather(&*filter, &input, &end, &mut items)?;
         Ok(Val::List(Array::from_vec(self.alloc, items)?))
     }
-}
 
-// The number with the other sign.
-fn negative(alloc: Global, value: &Val) -> Result<Val, Stop>
-    ensures { Answers result (negated (plain (view value.now))) }
-{
-    answer(neg(alloc, value))
-}
-
-impl<'s> Context<'s> {
     /// `f and g`.
     #[cycle(single)]
     #[inline(never)]
@@ -297,29 +273,7 @@ impl<'s> Context<'s> {
             Err(Stop::Unknown) => Err(Stop::Unknown),
         }
     }
-}
 
-// The output of the left side of `//`, if it is kept. An error ends the left side.
-fn kept(found: Result<Val, Stop>) -> Result<Option<Val>, Stop>
-    ensures some { (r : Run Item) (g : Item → Run Item) (x : Item) → Answers found r → IfOk result (λ o. IfSome o (λ v. alternative r g x ≡ one (plain (view v)))) }
-    ensures none { (r : Run Item) (g : Item → Run Item) (x : Item) → Answers found r → IfOk result (λ o. IfNone o (alternative r g x ≡ g x)) }
-    ensures stop { IfErr result IsUntold }
-{
-    match found {
-        Ok(value) => {
-            if truth(&value) {
-                return Ok(Some(value));
-            }
-            Ok(None)
-        }
-        Err(Stop::Nothing) => Ok(None),
-        Err(Stop::Raised(_error)) => Ok(None),
-        Err(Stop::NoMemory) => Err(Stop::NoMemory),
-        Err(Stop::Unknown) => Err(Stop::Unknown),
-    }
-}
-
-impl<'s> Context<'s> {
     /// `"a\(f)b"`, `@name "a\(f)b"`.
     #[cycle(single)]
     #[inline(never)]
@@ -383,29 +337,7 @@ impl<'s> Context<'s> {
         let front = piece.before.as_str();
         inserted(text_in_format(self.alloc, format, front, &found, back.as_str())?)
     }
-}
 
-// A text between two others, or its error.
-fn inserted(text: Inserted) -> Result<SharedText, Stop>
-    ensures { (front back : List ℕ) (expected : Text) → Inserts front expected back text → TextAnswers result (put_between front back expected) }
-{
-    match text {
-        Inserted::Text(text) => Ok(text),
-        Inserted::Error(error) => Err(Stop::Raised(error)),
-    }
-}
-
-/// `@name`.
-pub(crate) fn get_format(alloc: Global, format: &Name, value: &Val) -> Result<Val, Stop>
-    ensures { Answers result (bind (put_between [] [] (format_of (name_of format.now) (view value.now))) text_item) }
-{
-    match inserted(text_in_format(alloc, format, "", value, "")?) {
-        Ok(text) => Ok(Val::Text(text)),
-        Err(stop) => Err(stop),
-    }
-}
-
-impl<'s> Context<'s> {
     /// `{..}`. An entry that has a computed key and no value is not run at once.
     #[cycle(single)]
     #[inline(never)]
@@ -511,5 +443,63 @@ impl<'s> Context<'s> {
             ..*self
         };
         inside.entries(later, longer, value)
+    }
+}
+
+// The part of a value at a key.
+fn part_at(alloc: Global, guarded: bool, target: &Val, key: &Val) -> Result<Val, Stop>
+    ensures { Answers result (on_target guarded (view key.now) (plain (view target.now))) }
+{
+    match index(alloc, target, key) {
+        Ok(part) => Ok(part),
+        Err(Fail::Raised(error)) => Err(refused(guarded, error)),
+        Err(Fail::NoMemory) => Err(Stop::NoMemory),
+    }
+}
+
+// The number with the other sign.
+fn negative(alloc: Global, value: &Val) -> Result<Val, Stop>
+    ensures { Answers result (negated (plain (view value.now))) }
+{
+    answer(neg(alloc, value))
+}
+
+// The output of the left side of `//`, if it is kept. An error ends the left side.
+fn kept(found: Result<Val, Stop>) -> Result<Option<Val>, Stop>
+    ensures some { (r : Run Item) (g : Item → Run Item) (x : Item) → Answers found r → IfOk result (λ o. IfSome o (λ v. alternative r g x ≡ one (plain (view v)))) }
+    ensures none { (r : Run Item) (g : Item → Run Item) (x : Item) → Answers found r → IfOk result (λ o. IfNone o (alternative r g x ≡ g x)) }
+    ensures stop { IfErr result IsUntold }
+{
+    match found {
+        Ok(value) => {
+            if truth(&value) {
+                return Ok(Some(value));
+            }
+            Ok(None)
+        }
+        Err(Stop::Nothing) => Ok(None),
+        Err(Stop::Raised(_error)) => Ok(None),
+        Err(Stop::NoMemory) => Err(Stop::NoMemory),
+        Err(Stop::Unknown) => Err(Stop::Unknown),
+    }
+}
+
+// A text between two others, or its error.
+fn inserted(text: Inserted) -> Result<SharedText, Stop>
+    ensures { (front back : List ℕ) (expected : Text) → Inserts front expected back text → TextAnswers result (put_between front back expected) }
+{
+    match text {
+        Inserted::Text(text) => Ok(text),
+        Inserted::Error(error) => Err(Stop::Raised(error)),
+    }
+}
+
+/// `@name`.
+pub(crate) fn get_format(alloc: Global, format: &Name, value: &Val) -> Result<Val, Stop>
+    ensures { Answers result (bind (put_between [] [] (format_of (name_of format.now) (view value.now))) text_item) }
+{
+    match inserted(text_in_format(alloc, format, "", value, "")?) {
+        Ok(text) => Ok(Val::Text(text)),
+        Err(stop) => Err(stop),
     }
 }

@@ -165,48 +165,7 @@ impl<'s> Context<'s> {
             None => Err(Stop::Unknown),
         }
     }
-}
 
-// The part at a path.
-fn part_under(alloc: Global, value: &Val, path: &[Val]) -> Option<Val>
-    ensures { IfSome result (λ part. getpath_of (view value.now) (map view path.now) ≡ Ok (view part)) }
-{
-    match getpath(alloc, value, path) {
-        Ok(part) => Some(part),
-        Err(_) => None,
-    }
-}
-
-// Puts a part at a path.
-fn put_at(alloc: Global, value: &mut Val, path: &Val, part: Val) -> Result<(), Stop>
-    ensures runs { Changed result (view value.new) (plain_native SetPath (view value.old) (view path.now ∷ view part ∷ [])) }
-    ensures keeps { (v : Value) → Keeps result v (view value.new) }
-{
-    let path = path.copy()?;
-    call_on(alloc, Native::SetPath, value, &[path, part])
-}
-
-fn add_copy(without: &mut Vec<Val>, path: &Val) -> Result<(), NoMemory>
-    ensures { OnOk result (map view without.new.items ≡ map view without.old.items ++ view path.now ∷ []) }
-{
-    without.push(path.copy()?)?;
-    Ok(())
-}
-
-// Deletes the parts at the listed paths.
-fn delete_listed(alloc: Global, value: &mut Val, without: Vec<Val>) -> Result<(), Stop>
-    ensures runs { Changed result (view value.new) (plain_native DelPaths (view value.old) (listed without.items ∷ [])) }
-    ensures keeps { (v : Value) → Keeps result v (view value.new) }
-{
-    deleting_no_path_changes_nothing();
-    if without.is_empty() {
-        return Ok(());
-    }
-    let paths = Val::List(Array::from_vec(alloc, without)?);
-    call_on(alloc, Native::DelPaths, value, &[paths])
-}
-
-impl<'s> Context<'s> {
     /// Replaces the value by the first output of a filter.
     #[cycle(single)]
     pub(crate) fn change_first(&self, tree: &'s Tree, value: &mut Val) -> Result<(), Stop>
@@ -252,4 +211,43 @@ impl<'s> Context<'s> {
             Err(Stop::Unknown) => Err(Stop::Unknown),
         }
     }
+}
+
+// The part at a path.
+fn part_under(alloc: Global, value: &Val, path: &[Val]) -> Option<Val>
+    ensures { IfSome result (λ part. getpath_of (view value.now) (map view path.now) ≡ Ok (view part)) }
+{
+    match getpath(alloc, value, path) {
+        Ok(part) => Some(part),
+        Err(_) => None,
+    }
+}
+
+// Puts a part at a path.
+fn put_at(alloc: Global, value: &mut Val, path: &Val, part: Val) -> Result<(), Stop>
+    ensures runs { Changed result (view value.new) (plain_native SetPath (view value.old) (view path.now ∷ view part ∷ [])) }
+    ensures keeps { (v : Value) → Keeps result v (view value.new) }
+{
+    let path = path.copy()?;
+    call_on(alloc, Native::SetPath, value, &[path, part])
+}
+
+fn add_copy(without: &mut Vec<Val>, path: &Val) -> Result<(), NoMemory>
+    ensures { OnOk result (map view without.new.items ≡ map view without.old.items ++ view path.now ∷ []) }
+{
+    without.push(path.copy()?)?;
+    Ok(())
+}
+
+// Deletes the parts at the listed paths.
+fn delete_listed(alloc: Global, value: &mut Val, without: Vec<Val>) -> Result<(), Stop>
+    ensures runs { Changed result (view value.new) (plain_native DelPaths (view value.old) (listed without.items ∷ [])) }
+    ensures keeps { (v : Value) → Keeps result v (view value.new) }
+{
+    deleting_no_path_changes_nothing();
+    if without.is_empty() {
+        return Ok(());
+    }
+    let paths = Val::List(Array::from_vec(alloc, without)?);
+    call_on(alloc, Native::DelPaths, value, &[paths])
 }
