@@ -1,11 +1,11 @@
 // The outputs of a filter, each passed on to the rest of the filter: paths, and the numbers of `range(f; g)`, too. No list of them is kept.
-ghost use Rattle.std.specs.Prelude.{map, ◌≡◌, ◌++◌, ◌∷◌, [], MatchOption, OnOk, ℕ, List, IfOk, pos};
+ghost use Rattle.std.specs.Prelude.{map, ◌≡◌, ◌++◌, ◌∷◌, [], MatchOption, OnOk, ℕ, List, IfOk};
 ghost use Rattle.jq_ast.specs.Named.{named, named_as_pattern};
 ghost use Rattle.jq_tree.specs.Tree.{trees_of};
 ghost use Rattle.jq_operations.specs.Language.{meaning_of};
 ghost use Rattle.jq_state.specs.Items.{item_of};
 ghost use Rattle.jq_operations.specs.Entering.{defined};
-ghost use Rattle.jq_single.specs.private.Gathering.{GathersBelow, GathersBuiltin, GathersOf, Gathers, GathersRun, given_of, made, numbers_from};
+ghost use Rattle.jq_single.specs.private.Gathering.{GathersBelow, GathersBuiltin, GathersOf, Gathers, GathersRun, given_of, made, numbers_from, supplied};
 ghost use Rattle.jq_single.specs.private.Parts.{Calls};
 ghost use Rattle.jv_data.specs.Value.{Value};
 ghost use Rattle.jv_data.specs.View.{view};
@@ -15,7 +15,6 @@ ghost use Rattle.jq_meaning.specs.Runs.{Run, before, none, one, value_in, locate
 ghost use Rattle.jq_operations.specs.Outputs.{outputs_of};
 ghost use Rattle.jq_single.specs.Single.{Ends};
 ghost use Rattle.jq_ast.specs.Leaves.{key_of};
-ghost use Rattle.jq_meaning.specs.Builtins.{numbers_up_to};
 ghost use Rattle.jq_tree.specs.Tree as form;
 ghost use Rattle.jq_meaning.specs.Runs as runs;
 ghost use Rattle.jq_meaning.specs.Builtins as meaning;
@@ -34,6 +33,13 @@ use jq_state::numbers::{is_before, number_after};
 use jq_state::steps::Operation;
 use jv_data::{NoMemory, Val};
 use std::alloc::Global;
+
+/// Items that are given one by one: those of a vector, the last one first, or whole numbers up to but not including an end.
+#[derive(Drop)]
+pub(crate) enum Supply {
+    Items(Vec<Item>),
+    Numbers(Option<i64>, i64),
+}
 
 impl<'s> Context<'s> {
     /// Runs a filter in a scope, and the rest on each of its outputs. The values at the end are added to a list.
@@ -401,7 +407,7 @@ impl<'s> Context<'s> {
         match outputs {
             Outputs::Nothing => Ok(()),
             Outputs::One(item) => self.give(item, rest, into),
-            Outputs::Several(items) => self.give_several(items, rest, into),
+            Outputs::Several(items) => self.give_all(Supply::Items(items), rest, into),
             // A step never makes numbers of a range.
             Outputs::Numbers(_, _, _) => Err(Stop::Unknown),
             Outputs::Error(error) => Err(Stop::Raised(error)),
@@ -410,17 +416,12 @@ impl<'s> Context<'s> {
         }
     }
 
-    // Runs the rest of the filter on several items, which are in a vector with the last one first.
+    // Runs the rest of the filter on items that are given one by one.
     #[cycle(single)]
-    fn give_several(
-        &self,
-        mut items: Vec<Item>,
-        rest: &Rest<'s>,
-        into: &mut Vec<Val>,
-    ) -> Result<(), Stop>
-        ensures { GathersRun (given_of items.items) rest.now result into.old.items into.new.items }
+    fn give_all(&self, mut supply: Supply, rest: &Rest<'s>, into: &mut Vec<Val>) -> Result<(), Stop>
+        ensures { GathersRun (supplied supply) rest.now result into.old.items into.new.items }
     {
-        while let Some(item) = take_last(&mut items) {
+        while let Some(item) = take_item(&mut supply) {
             match self.give(item, rest, into) {
                 Ok(()) => {}
                 Err(stop) => return Err(stop),
@@ -528,31 +529,12 @@ impl<'s> Context<'s> {
         ensures { GathersRun (meaning.range_of (view start.now ∷ view end.now ∷ [])) rest.now result into.old.items into.new.items }
     {
         match (start, end) {
-            (Val::Num(start), Val::Num(end)) => self.give_numbers(*start, *end, rest, into),
+            (Val::Num(start), Val::Num(end)) => {
+                let numbers = Supply::Numbers(Some(*start), *end);
+                self.give_all(numbers, rest, into)
+            }
             _ => Err(Stop::Unknown),
         }
-    }
-
-    // Runs the rest of the filter on each whole number from `first` up to but not including `end`.
-    #[cycle(single)]
-    fn give_numbers(
-        &self,
-        first: i64,
-        end: i64,
-        rest: &Rest<'s>,
-        into: &mut Vec<Val>,
-    ) -> Result<(), Stop>
-        ensures { GathersRun (numbers_up_to first end (pos 1)) rest.now result into.old.items into.new.items }
-    {
-        let mut next = Some(first);
-        while let Some(value) = take_number(&mut next, end) {
-            let item = Item::plain(value);
-            match self.give(item, rest, into) {
-                Ok(()) => {}
-                Err(stop) => return Err(stop),
-            }
-        }
-        Ok(())
     }
 }
 
@@ -573,6 +555,19 @@ pub(crate) fn ended(stop: Stop) -> Result<(), Stop>
         Stop::Raised(error) => Err(Stop::Raised(error)),
         Stop::NoMemory => Err(Stop::NoMemory),
         Stop::Unknown => Err(Stop::Unknown),
+    }
+}
+
+// Takes the first item out of a supply.
+fn take_item(supply: &mut Supply) -> Option<Item>
+    ensures { MatchOption result (supplied supply.old ≡ none) (λ x. supplied supply.old ≡ before (item_of x ∷ []) (supplied supply.new)) }
+{
+    match supply {
+        Supply::Items(items) => take_last(items),
+        Supply::Numbers(next, end) => match take_number(next, *end) {
+            Some(value) => Some(Item::plain(value)),
+            None => None,
+        },
     }
 }
 

@@ -21,6 +21,8 @@ use Rattle.jq_single.specs.Single.{Changed, Ends}
 use Rattle.jq_single.specs.private.Parts.{ChangesTo, body_in, builtin_in, run}
 use Rattle.jq_single.specs.private.Scopes.{scope_env}
 use Rattle.jq_single.specs.declared.contexts.Context.{Context}
+use Rattle.jq_single.specs.declared.gathering.Supply.{Supply}
+use Rattle.jq_single.specs.declared.gathering.Supply.TheVariants as supply
 use Rattle.jq_single.specs.declared.rests.Rest.{Rest}
 use Rattle.jq_single.specs.declared.rests.Rest.TheVariants as rest
 use Rattle.jq_single.specs.declared.scopes.Scope.{Scope}
@@ -98,6 +100,10 @@ given_of xs = record { items = reverse (map item_of xs); ending = Done }
 abbrev pub numbers_from : Option ℤ → (end : ℤ) → Run Item
 numbers_from None end = none
 numbers_from (Some n) end = numbers_up_to n end (pos 1)
+
+abbrev pub supplied : Supply → Run Item
+supplied (supply.Items xs) = given_of xs.items
+supplied (supply.Numbers next end) = numbers_from next end
 
 -- ---- folds
 

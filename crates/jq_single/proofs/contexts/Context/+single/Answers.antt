@@ -1,5 +1,4 @@
-use Rattle.std.proofs.Common.{rules, to_z, of_z, w64, Ok, Err, [], ◌∷◌, List, ℕ, suc, ◌≡◌, ◌∙◌, ◌-◌, arith, length, map, true, false, refl, sym, ap, subst}
-use Rattle.std.proofs.lemmas.Int.{to_z-of_z}
+use Rattle.std.proofs.Common.{rules, Ok, Err, [], ◌∷◌, List, ℕ, suc, ◌≡◌, ◌∙◌, ◌-◌, arith, length, map, true, false, refl, sym, ap, subst}
 use Rattle.std.proofs.Math.Logic.{∥∥₁_elim}
 use Rattle.std.specs.Str.{chars}
 use Rattle.jv_data.specs.Held.{members_in}
@@ -29,7 +28,7 @@ use Rattle.jq_operations.specs.Outputs.{Inserts, outputs_of}
 use Rattle.jq_operations.specs.Pieces.{named_pieces}
 use Rattle.jq_state.specs.Steps.{named_entries}
 use Rattle.jq_meaning.proofs.shared.machine.RunLaws.{bind-bind, bind-then_run}
-use Rattle.jq_single.specs.private.Gathering.{Gathers, GathersOf, folded, given_of, made, numbers_from, rest_run, state_in, turn}
+use Rattle.jq_single.specs.private.Gathering.{Gathers, GathersOf, folded, made, rest_run, supplied, state_in, turn}
 use Rattle.jq_state.specs.Items.{item_of}
 use Rattle.jq_state.proofs.shared.Items.{absent, value_of_item}
 use Rattle.jq_single.specs.private.Making.{entries_in}
@@ -591,22 +590,22 @@ give_outputs-returns-in-Error t c = λ inputs level.
     let later : Item → Run Item = rest_run inputs level c.args.rest.now in
     gathers-fail inputs level c.args.rest.now c.args.into.now.items (view c.in-Error.error) (bind (outputs_of c.args.outputs) later) (ap (λ o. bind (outputs_of o) later) c.in-Error.is)
 
-pub give_several-returns : goal.give_several-returns
-give_several-returns t c = λ inputs level.
+pub give_all-returns : goal.give_all-returns
+give_all-returns t c = λ inputs level.
     let given = c.loop-item.into.items in
     let later : Item → Run Item = rest_run inputs level c.args.rest.now in
-    let none_left : given_of c.loop-item.items.items ≡ none = search rules in
+    let none_left : supplied c.loop-item.supply ≡ none = search rules in
     c.loop-item.invariant inputs level (Ok (tt {0})) given
-    (gathers-none (made inputs level c.args.rest.now) (tt {0}) given (bind (given_of c.loop-item.items.items) later) (ap (λ r. bind r later) none_left))
+    (gathers-none (made inputs level c.args.rest.now) (tt {0}) given (bind (supplied c.loop-item.supply) later) (ap (λ r. bind r later) none_left))
 
-pub give_several-returns-in-Err : goal.give_several-returns-in-Err
-give_several-returns-in-Err t c = λ inputs level.
+pub give_all-returns-in-Err : goal.give_all-returns-in-Err
+give_all-returns-in-Err t c = λ inputs level.
     let later : Item → Run Item = rest_run inputs level c.args.rest.now in
     c.loop-item.invariant inputs level (Err c.in-Err.stop) []
     (stops_first (made inputs level c.args.rest.now) c.in-Err.stop c.loop-item.into.items _ _ (item_of c.in-Some.item) later c.in-Some.ensures (c.in-Err.ensures inputs level))
 
-pub give_several-loop-item-preserved : goal.give_several-loop-item-preserved
-give_several-loop-item-preserved t c = λ inputs level a ys h.
+pub give_all-loop-item-preserved : goal.give_all-loop-item-preserved
+give_all-loop-item-preserved t c = λ inputs level a ys h.
     let later : Item → Run Item = rest_run inputs level c.args.rest.now in
     c.loop-item.invariant inputs level a ys
     (gives_first (made inputs level c.args.rest.now) c.in-Ok.field-0 a c.loop-item.into.items c.give.new.into.items ys _ _ (item_of c.in-Some.item) later c.in-Some.ensures (c.in-Ok.ensures inputs level) h)
@@ -674,28 +673,6 @@ gather_range-returns-in-Ok t c = λ inputs level.
     let numbers : Item → Run Item = λ y. range_of (view c.in-Ok.first ∷ value_in y ∷ []) in
     c.ended.ensures inputs level c.args.rest.now (bind r later) c.args.into.now.items
     (ends-bind s r later (subst (Ends s) (sym same) (ends-after s start low next (c.in-Ok.ensures inputs level) (ends-bind s end numbers (c.in-Err-get.ensures inputs level)))))
-
-pub give_numbers-returns : goal.give_numbers-returns
-give_numbers-returns t c = λ inputs level.
-    let given = c.loop-value.into.items in
-    let later : Item → Run Item = rest_run inputs level c.args.rest.now in
-    let none_left : numbers_from c.loop-value.next (to_z w64 (of_z w64 c.args.end)) ≡ none = search rules in
-    simp (to_z-of_z, c.ranges.first, c.ranges.end) at (c.loop-value.invariant inputs level (Ok (tt {0})) given
-    (gathers-none (made inputs level c.args.rest.now) (tt {0}) given (bind (numbers_from c.loop-value.next (to_z w64 (of_z w64 c.args.end))) later) (ap (λ r. bind r later) none_left)))
-
-pub give_numbers-returns-in-Err : goal.give_numbers-returns-in-Err
-give_numbers-returns-in-Err t c = λ inputs level.
-    let later : Item → Run Item = rest_run inputs level c.args.rest.now in
-    simp (to_z-of_z, c.ranges.first, c.ranges.end) at (c.loop-value.invariant inputs level (Err c.in-Err.stop) []
-    (stops_first (made inputs level c.args.rest.now) c.in-Err.stop c.loop-value.into.items _ _ (plain (view c.in-Some.value)) later c.in-Some.ensures
-    (subst (λ (x : Item). (q : Run Item) → Ends c.in-Err.stop (made inputs level c.args.rest.now c.loop-value.into.items (then_run (bind (one x) later) q))) c.plain-item.ensures (c.in-Err.ensures inputs level))))
-
-pub give_numbers-loop-value-preserved : goal.give_numbers-loop-value-preserved
-give_numbers-loop-value-preserved t c = λ inputs level a ys h.
-    let later : Item → Run Item = rest_run inputs level c.args.rest.now in
-    c.loop-value.invariant inputs level a ys
-    (gives_first (made inputs level c.args.rest.now) c.in-Ok.field-0 a c.loop-value.into.items c.give.new.into.items ys _ _ (plain (view c.in-Some.value)) later c.in-Some.ensures
-    (subst (λ (x : Item). Gathers (made inputs level c.args.rest.now) (Ok c.in-Ok.field-0) c.loop-value.into.items c.give.new.into.items (bind (one x) later)) c.plain-item.ensures (c.in-Ok.ensures inputs level)) h)
 
 -- ---- strings
 

@@ -1,13 +1,12 @@
-use Rattle.std.proofs.Common.{◌≡◌, ℕ, ◌+◌, ◌*◌, pos, List, [], drop, length, map, Result}
+use Rattle.std.proofs.Common.{◌≡◌, ℕ, ◌+◌, ◌*◌, List, [], drop, length, map, Result}
 use Rattle.jv_data.specs.Value.{Value, array, items_of}
 use Rattle.jv_data.specs.View.{view}
 use Rattle.jv_data.specs.declared.values.Val.{Val}
 use Rattle.jq_ast.specs.Named.{named}
 use Rattle.jq_meaning.specs.Runs.{Done, Run, bind}
 use Rattle.jq_meaning.specs.laws.Updating.{turns}
-use Rattle.jq_meaning.specs.Builtins.{numbers_up_to}
 use Rattle.jq_single.specs.declared.stops.Stop.{Stop}
-use Rattle.jq_single.specs.private.Gathering.{Gathers, given_of, made, numbers_from, rest_run}
+use Rattle.jq_single.specs.private.Gathering.{Gathers, made, rest_run, supplied}
 use Rattle.jq_single.specs.private.Updates.{listed, part_run}
 use Rattle.jq_single.proofs.contexts.Context.+single.Given as goal
 
@@ -223,32 +222,21 @@ decreases-give_step l = 32 * l.self.now.fuel + 3
 abbrev pub decreases-give_outputs : goal.decreases-give_outputs
 decreases-give_outputs l = 32 * l.self.now.fuel + 7
 
-abbrev pub decreases-give_several : goal.decreases-give_several
-decreases-give_several l = 32 * l.self.now.fuel + 6
+abbrev pub decreases-give_all : goal.decreases-give_all
+decreases-give_all l = 32 * l.self.now.fuel + 6
 
 abbrev pub decreases-give_range : goal.decreases-give_range
-decreases-give_range l = 32 * l.self.now.fuel + 6
-
-abbrev pub decreases-give_numbers : goal.decreases-give_numbers
-decreases-give_numbers l = 32 * l.self.now.fuel + 5
+decreases-give_range l = 32 * l.self.now.fuel + 7
 
 -- ---- loops: the remaining items have the same result after what was added as all of them had at first
 
-abbrev pub invariant-give_several-loop-item : goal.invariant-give_several-loop-item
-invariant-give_several-loop-item l =
-    (inputs : Run Value) (level : ℕ) (a : Result (Unit {0}) Stop) (ys : List Val) → Gathers (made inputs level l.rest) a l.into.items ys (bind (given_of l.items.items) (rest_run inputs level l.rest))
-    → Gathers (made inputs level l.rest) a l.initial.into.items ys (bind (given_of l.initial.items.items) (rest_run inputs level l.rest))
+abbrev pub invariant-give_all-loop-item : goal.invariant-give_all-loop-item
+invariant-give_all-loop-item l =
+    (inputs : Run Value) (level : ℕ) (a : Result (Unit {0}) Stop) (ys : List Val) → Gathers (made inputs level l.rest) a l.into.items ys (bind (supplied l.supply) (rest_run inputs level l.rest))
+    → Gathers (made inputs level l.rest) a l.initial.into.items ys (bind (supplied l.initial.supply) (rest_run inputs level l.rest))
 
-abbrev pub decreases-give_several-loop-item : goal.decreases-give_several-loop-item
-decreases-give_several-loop-item l = length l.items.items
-
-abbrev pub invariant-give_numbers-loop-value : goal.invariant-give_numbers-loop-value
-invariant-give_numbers-loop-value l =
-    (inputs : Run Value) (level : ℕ) (a : Result (Unit {0}) Stop) (ys : List Val) → Gathers (made inputs level l.rest) a l.into.items ys (bind (numbers_from l.next l.end) (rest_run inputs level l.rest))
-    → Gathers (made inputs level l.rest) a l.initial.into.items ys (bind (numbers_up_to l.first l.end (pos 1)) (rest_run inputs level l.rest))
-
-abbrev pub decreases-give_numbers-loop-value : goal.decreases-give_numbers-loop-value
-decreases-give_numbers-loop-value l = length (numbers_from l.next l.end).items
+abbrev pub decreases-give_all-loop-item : goal.decreases-give_all-loop-item
+decreases-give_all-loop-item l = length (supplied l.supply).items
 
 abbrev pub invariant-change_each-loop-path : goal.invariant-change_each-loop-path
 invariant-change_each-loop-path l =
