@@ -14,7 +14,7 @@ use Rattle.jq_single.specs.Single.{Ends, Changed, Keeps, Leaves}
 use Rattle.jq_single.specs.private.Gathering.{GoesOn, Gathers, GathersAll, given_of, made, rest_run, folded, last_or, state_in, turn}
 use Rattle.jv_data.specs.declared.containers.texts.SharedText.{SharedText}
 use Rattle.jq_single.specs.private.Making.{TextAnswers}
-use Rattle.jq_single.specs.private.Parts.{Answers, IsUntold, RunsTo, run}
+use Rattle.jq_single.specs.private.Parts.{Answers, IsUntold, RunsTo, on_decided, run}
 use Rattle.jq_single.specs.declared.stops.Stop.{Stop}
 use Rattle.std.proofs.lemmas.List.{append-nil, map-append, reverse-append}
 use Rattle.jv_data.proofs.shared.Items.{values_of-items_of}
@@ -92,21 +92,17 @@ goes-changed (Err s) w r h = h
 
 -- ---- conditions
 
-pub and_goes : (a : Result Val Stop) (l : Run Item) (w : Value) (right : Item → Run Item) (x : Item) → l ≡ one (plain w) → is_true w ≡ true → Answers a (bind (right x) truth) → Answers a (bind l (on_conjunct right x))
-unfolding on_conjunct
-and_goes a l w right x e t h = answers-bind a l (plain w) (on_conjunct right x) e (rw (t, on_conjunct) h)
+pub decided_by : (by : Bool) (l : Run Item) (w : Value) (right : Item → Run Item) (x : Item) → l ≡ one (plain w) → is_true w ≡ by → bind l (on_decided by right x) ≡ one (plain (boolean by))
+unfolding on_conjunct on_disjunct
+decided_by true l w right x e t = bind-known l (plain w) (on_disjunct right x) e ∙ rw (t, on_disjunct) refl
+decided_by false l w right x e t = bind-known l (plain w) (on_conjunct right x) e ∙ rw (t, on_conjunct) refl
 
-pub and_stops : (l : Run Item) (w : Value) (right : Item → Run Item) (x : Item) → l ≡ one (plain w) → is_true w ≡ false → bind l (on_conjunct right x) ≡ one (plain (boolean false))
-unfolding on_conjunct
-and_stops l w right x e t = bind-known l (plain w) (on_conjunct right x) e ∙ rw (t, on_conjunct) refl
-
-pub or_goes : (a : Result Val Stop) (l : Run Item) (w : Value) (right : Item → Run Item) (x : Item) → l ≡ one (plain w) → is_true w ≡ false → Answers a (bind (right x) truth) → Answers a (bind l (on_disjunct right x))
-unfolding on_disjunct
-or_goes a l w right x e t h = answers-bind a l (plain w) (on_disjunct right x) e (rw (t, on_disjunct) h)
-
-pub or_stops : (l : Run Item) (w : Value) (right : Item → Run Item) (x : Item) → l ≡ one (plain w) → is_true w ≡ true → bind l (on_disjunct right x) ≡ one (plain (boolean true))
-unfolding on_disjunct
-or_stops l w right x e t = bind-known l (plain w) (on_disjunct right x) e ∙ rw (t, on_disjunct) refl
+pub decided_else : (by b : Bool) (l : Run Item) (w : Value) (right : Item → Run Item) (x : Item) → l ≡ one (plain w) → is_true w ≡ b → (b ≡ by → ⊥) → bind l (on_decided by right x) ≡ bind (right x) truth
+unfolding on_conjunct on_disjunct
+decided_else true true l w right x e t h = absurd (h refl)
+decided_else true false l w right x e t h = bind-known l (plain w) (on_disjunct right x) e ∙ rw (t, on_disjunct) refl
+decided_else false true l w right x e t h = bind-known l (plain w) (on_conjunct right x) e ∙ rw (t, on_conjunct) refl
+decided_else false false l w right x e t h = absurd (h refl)
 
 pub truth_of : (l : Run Item) (w : Value) (b : Bool) → l ≡ one (plain w) → b ≡ is_true w → bind l truth ≡ one (plain (boolean b))
 unfolding truth

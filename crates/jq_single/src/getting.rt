@@ -2,7 +2,7 @@
 ghost use Rattle.std.specs.Prelude.{◌≡◌, IfErr, IfNone, IfOk, IfSome, ℕ, List, []};
 ghost use Rattle.jv_data.specs.View.{view};
 ghost use Rattle.jq_ast.specs.Named.{named, name_of, named_entry};
-ghost use Rattle.jq_single.specs.private.Parts.{RunsTo, Answers, Follows, IsUntold};
+ghost use Rattle.jq_single.specs.private.Parts.{RunsTo, Answers, Decides, Follows, IsUntold};
 ghost use Rattle.jq_meaning.specs.Continuations.{on_target, negated, format_of, put_between, text_item};
 ghost use Rattle.jq_meaning.specs.Runs.{plain, Run, Item, alternative, one, bind};
 ghost use Rattle.jv_data.specs.Shared.{text_in};
@@ -15,7 +15,6 @@ ghost use Rattle.jv_data.specs.Held.{members_in};
 ghost use Rattle.jq_tree.specs.Tree.{more_entries};
 ghost use Rattle.jq_state.specs.Steps.{named_entries};
 ghost use Rattle.jq_tree.specs.Tree as form;
-ghost use Rattle.jq_meaning.specs.Continuations as next;
 
 use crate::contexts::Context;
 use crate::finding::value_of;
@@ -87,8 +86,8 @@ impl<'s> Context<'s> {
             Tree::Index(target, key, guarded) => self.index(target, key, *guarded, value),
             Tree::Slice(target, from, to, guarded) => self.slice(target, from, to, *guarded, value),
             Tree::Pipe(first, second) => self.pipe(first, second, value),
-            Tree::And(left, right) => self.and(left, right, value),
-            Tree::Or(left, right) => self.or(left, right, value),
+            Tree::And(left, right) => self.decided(false, left, right, value),
+            Tree::Or(left, right) => self.decided(true, left, right, value),
             Tree::Alternative(left, right) => self.alternative(left, right, value),
             Tree::Negation(operand) => self.negation(operand, value),
             Tree::Array(filter) => self.array(filter, value),
@@ -199,41 +198,18 @@ impl<'s> Context<'s> {
         Ok(Val::List(Array::from_vec(self.alloc, items)?))
     }
 
-    /// `f and g`.
+    /// `f or g`, where true decides, and `f and g`, where false does. The right side is run if the left side does not decide.
     #[cycle(single)]
     #[inline(never)]
-    pub(crate) fn and(&self, left: &'s Tree, right: &'s Tree, value: &Val) -> Result<Val, Stop>
-        ensures { RunsTo self.now (form.conjunction (named left.now) (named right.now)) (view value.now) result }
+    fn decided(&self, by: bool, left: &'s Tree, right: &'s Tree, value: &Val) -> Result<Val, Stop>
+        ensures { Decides self.now by (named left.now) (named right.now) (view value.now) result }
     {
         let first = self.get(left, value)?;
-        if truth(&first) {
-            self.get_truth(right, value)
-        } else {
-            Ok(Val::Bool(false))
+        if truth(&first) == by {
+            return Ok(Val::Bool(by));
         }
-    }
-
-    /// `f or g`.
-    #[cycle(single)]
-    #[inline(never)]
-    pub(crate) fn or(&self, left: &'s Tree, right: &'s Tree, value: &Val) -> Result<Val, Stop>
-        ensures { RunsTo self.now (form.disjunction (named left.now) (named right.now)) (view value.now) result }
-    {
-        let first = self.get(left, value)?;
-        if truth(&first) {
-            Ok(Val::Bool(true))
-        } else {
-            self.get_truth(right, value)
-        }
-    }
-
-    // Whether the output of a filter is neither null nor false.
-    #[cycle(single)]
-    fn get_truth(&self, tree: &'s Tree, value: &Val) -> Result<Val, Stop>
-        ensures { Follows self.now (named tree.now) (view value.now) next.truth result }
-    {
-        let output = self.get(tree, value)?;
-        Ok(Val::Bool(truth(&output)))
+        let second = self.get(right, value)?;
+        Ok(Val::Bool(truth(&second)))
     }
 
     /// `f // g`.

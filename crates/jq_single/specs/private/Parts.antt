@@ -1,5 +1,5 @@
 -- The outputs of the parts of a filter that has at most one output.
-use Rattle.std.specs.Prelude.{◌≡◌, ℕ, List, map, Result, Ok, Err}
+use Rattle.std.specs.Prelude.{◌≡◌, ℕ, Bool, true, false, List, map, Result, Ok, Err}
 use Rattle.jq_natives.specs.declared.native.Native.{Native}
 use Rattle.jv_data.specs.Value.{Value}
 use Rattle.jv_data.specs.View.{view}
@@ -8,6 +8,7 @@ use Rattle.jq_ast.specs.Named.{named}
 use Rattle.jq_ast.specs.declared.tree.Tree as ast
 use Rattle.jq_tree.specs.Tree.{Tree, Trees, trees_of}
 use Rattle.jq_meaning.specs.Builtins.{Builtin, builtin_run, each_choice, plain_native}
+use Rattle.jq_meaning.specs.Continuations.{on_conjunct, on_disjunct}
 use Rattle.jq_meaning.specs.Env.{find_inputs}
 use Rattle.jq_meaning.specs.Meaning.{arguments_with, below, meaning}
 use Rattle.jq_meaning.specs.Runs.{Item, plain, Run, one, bind}
@@ -48,6 +49,14 @@ ChangesBelow p own t v w result = (inputs : Run Value) (level : ℕ) → Changed
 -- The run of a tree, followed by another filter.
 abbrev pub Follows : Context → Tree → Value → (Item → Run Item) → Result Val Stop → Type 0
 Follows p t v next result = (inputs : Run Value) (level : ℕ) → Answers result (bind (run p inputs level t (plain v)) next)
+
+-- `or` if true decides, and else `and`.
+abbrev pub on_decided : (by : Bool) → (Item → Run Item) → Item → Item → Run Item
+on_decided true right x = on_disjunct right x
+on_decided false right x = on_conjunct right x
+
+abbrev pub Decides : Context → (by : Bool) → (left right : Tree) → Value → Result Val Stop → Type 0
+Decides p by t u v result = (inputs : Run Value) (level : ℕ) → Answers result (bind (run p inputs level t (plain v)) (on_decided by (run p inputs level u) (plain v)))
 
 -- Nothing is claimed of a run.
 abbrev pub IsUntold : Stop → Type 0

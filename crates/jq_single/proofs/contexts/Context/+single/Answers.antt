@@ -21,7 +21,7 @@ use Rattle.jq_meaning.specs.Env.{bound, value_of}
 use Rattle.jq_meaning.specs.Steps.{each_part}
 use Rattle.jq_meaning.specs.Folds.{next_state, reduced}
 use Rattle.jq_meaning.specs.Meaning.{arguments_with, below, bindings_with, meaning, pieces_with}
-use Rattle.jq_meaning.specs.Continuations.{on_source, on_state, on_target, on_key, on_start, on_end, on_entry, on_entry_key, on_back, on_inserted, format_of, on_left, on_right, negated, truth, on_conjunct, on_disjunct, on_test, on_error}
+use Rattle.jq_meaning.specs.Continuations.{on_source, on_state, on_target, on_key, on_start, on_end, on_entry, on_entry_key, on_back, on_inserted, format_of, on_left, on_right, negated, truth, on_test, on_error}
 use Rattle.jq_meaning.specs.Runs.{Done, Run, Item, plain, located, as_value, value_in, none, one, fail, alternative, then_run, bind, catch, gathered}
 use Rattle.jq_single.specs.private.Scopes.{scope_env}
 use Rattle.jq_operations.specs.Outputs.{Inserts, outputs_of}
@@ -34,10 +34,10 @@ use Rattle.jq_state.proofs.shared.Items.{absent, value_of_item}
 use Rattle.jq_single.specs.private.Making.{entries_in}
 use Rattle.jq_single.specs.private.Updates.{listed, part_run, path_run}
 use Rattle.jq_meaning.specs.laws.Updating.{turn_of, turns}
-use Rattle.jq_single.specs.private.Parts.{Answers, Calls, ChangesTo, builtin_in, run}
+use Rattle.jq_single.specs.private.Parts.{Answers, Calls, ChangesTo, builtin_in, on_decided, run}
 use Rattle.jq_single.specs.Single.{Changed, Ends}
 use Rattle.jq_single.specs.private.FirstOutputs.{first_alone}
-use Rattle.jq_single.proofs.Binding.{bind-known, ends-bind, fails, ends-after, answers-bind, changed-bind, changed-stops, goes-changed, keeps-stops, leaves_same, stops, untold, and_goes, and_stops, or_goes, or_stops, truth_of, caught, with_variable, text-bind, text-stops, gathers-none, gathers-then, gathers-fail, gathers_all, gives_first, stops_first, stops-then, gathered_list, ends_gathered, bound_rest, picks_holds, picks_fails, fold_value, turned, fold_ends, single_fold}
+use Rattle.jq_single.proofs.Binding.{bind-known, ends-bind, fails, ends-after, answers-bind, changed-bind, changed-stops, goes-changed, keeps-stops, leaves_same, stops, untold, decided_by, decided_else, truth_of, caught, with_variable, text-bind, text-stops, gathers-none, gathers-then, gathers-fail, gathers_all, gives_first, stops_first, stops-then, gathered_list, ends_gathered, bound_rest, picks_holds, picks_fails, fold_value, turned, fold_ends, single_fold}
 use Rattle.jq_single.specs.declared.rests.Rest.{Rest}
 use Rattle.jq_single.specs.declared.rests.Rest.TheVariants as rest
 use Rattle.jq_single.proofs.UpdateTurns.{changed-first, first-then, changed-prop, getpath_keys, known_paths, listed_more, modify_tree, turn_lists, turn_raises, turn_sets, two_calls_deep}
@@ -131,53 +131,32 @@ negation-returns-in_err-found t c = λ inputs level.
 
 -- ---- conditions
 
-pub get_truth-returns : goal.get_truth-returns
-get_truth-returns t c = λ inputs level.
-    truth_of (run c.args.self.now inputs level (named c.args.tree.now) (plain (view c.args.value.now))) (view c.in_ok-output.output) c.truth.result
-    (c.in_ok-output.ensures inputs level) c.truth.ensures
-    ∙ ap (λ (w : Value). one (plain w)) (sym (view-Bool c.truth.result))
-
-pub get_truth-returns-in_err-output : goal.get_truth-returns-in_err-output
-get_truth-returns-in_err-output t c = λ inputs level.
-    fails c.from_residual.result c.in_err-output.field-0.0 c.args.self.now (named c.args.tree.now) (view c.args.value.now) truth inputs level c.from_residual.ensures.1 c.in_err-output.ensures
-
-pub and-returns-then-truth : goal.and-returns-then-truth
-and-returns-then-truth t c = λ inputs level.
+pub decided-returns-then-truth-by : goal.decided-returns-then-truth-by
+decided-returns-then-truth-by t c = λ inputs level.
     let v = plain (view c.args.value.now) in
     let go : Tree → Item → Run Item = run c.args.self.now inputs level in
-    and_goes c.get_truth.result (go (named c.args.left.now) v) (view c.in_ok-first.first) (go (named c.args.right.now)) v
-    (c.in_ok-first.ensures inputs level) (sym c.truth.ensures ∙ c.if-truth.true) (c.get_truth.ensures inputs level)
+    decided_by c.args.by (go (named c.args.left.now) v) (view c.in_ok-first.first) (go (named c.args.right.now)) v (c.in_ok-first.ensures inputs level) (sym c.truth.ensures ∙ c.if-truth-by.true)
+    ∙ ap (λ (w : Value). one (plain w)) (sym (view-Bool c.args.by))
 
-pub and-returns : goal.and-returns
-and-returns t c = λ inputs level.
+pub decided-returns : goal.decided-returns
+decided-returns t c = λ inputs level.
     let v = plain (view c.args.value.now) in
     let go : Tree → Item → Run Item = run c.args.self.now inputs level in
-    and_stops (go (named c.args.left.now) v) (view c.in_ok-first.first) (go (named c.args.right.now)) v
-    (c.in_ok-first.ensures inputs level) (sym c.truth.ensures ∙ c.if-truth.false)
-    ∙ ap (λ (w : Value). one (plain w)) (sym (view-Bool false))
+    decided_else c.args.by c.truth.result (go (named c.args.left.now) v) (view c.in_ok-first.first) (go (named c.args.right.now)) v (c.in_ok-first.ensures inputs level) (sym c.truth.ensures) c.if-truth-by.false
+    ∙ truth_of (go (named c.args.right.now) v) (view c.in_ok-second.second) c.truth-2.result (c.in_ok-second.ensures inputs level) c.truth-2.ensures ∙ ap (λ (w : Value). one (plain w)) (sym (view-Bool c.truth-2.result))
 
-pub and-returns-in_err-first : goal.and-returns-in_err-first
-and-returns-in_err-first t c = λ inputs level.
-    fails c.from_residual.result c.in_err-first.field-0.0 c.args.self.now (named c.args.left.now) (view c.args.value.now) (on_conjunct (run c.args.self.now inputs level (named c.args.right.now)) (plain (view c.args.value.now))) inputs level c.from_residual.ensures.1 c.in_err-first.ensures
+pub decided-returns-in_err-first : goal.decided-returns-in_err-first
+decided-returns-in_err-first t c = λ inputs level.
+    fails c.from_residual.result c.in_err-first.field-0.0 c.args.self.now (named c.args.left.now) (view c.args.value.now) (on_decided c.args.by (run c.args.self.now inputs level (named c.args.right.now)) (plain (view c.args.value.now))) inputs level c.from_residual.ensures.1 c.in_err-first.ensures
 
-pub or-returns : goal.or-returns
-or-returns t c = λ inputs level.
+pub decided-returns-in_err-second : goal.decided-returns-in_err-second
+decided-returns-in_err-second t c = λ inputs level.
     let v = plain (view c.args.value.now) in
     let go : Tree → Item → Run Item = run c.args.self.now inputs level in
-    or_goes c.get_truth.result (go (named c.args.left.now) v) (view c.in_ok-first.first) (go (named c.args.right.now)) v
-    (c.in_ok-first.ensures inputs level) (sym c.truth.ensures ∙ c.if-truth.false) (c.get_truth.ensures inputs level)
-
-pub or-returns-then-truth : goal.or-returns-then-truth
-or-returns-then-truth t c = λ inputs level.
-    let v = plain (view c.args.value.now) in
-    let go : Tree → Item → Run Item = run c.args.self.now inputs level in
-    or_stops (go (named c.args.left.now) v) (view c.in_ok-first.first) (go (named c.args.right.now)) v
-    (c.in_ok-first.ensures inputs level) (sym c.truth.ensures ∙ c.if-truth.true)
-    ∙ ap (λ (w : Value). one (plain w)) (sym (view-Bool true))
-
-pub or-returns-in_err-first : goal.or-returns-in_err-first
-or-returns-in_err-first t c = λ inputs level.
-    fails c.from_residual.result c.in_err-first.field-0.0 c.args.self.now (named c.args.left.now) (view c.args.value.now) (on_disjunct (run c.args.self.now inputs level (named c.args.right.now)) (plain (view c.args.value.now))) inputs level c.from_residual.ensures.1 c.in_err-first.ensures
+    let s = c.in_err-second.field-0.0 in
+    stops c.from_residual-in_err-second.result s _ c.from_residual-in_err-second.ensures.1
+    (subst (Ends s) (sym (decided_else c.args.by c.truth.result (go (named c.args.left.now) v) (view c.in_ok-first.first) (go (named c.args.right.now)) v (c.in_ok-first.ensures inputs level) (sym c.truth.ensures) c.if-truth-by.false))
+    (ends-bind s (go (named c.args.right.now) v) truth (c.in_err-second.ensures inputs level)))
 
 -- ---- `//` and `try`
 

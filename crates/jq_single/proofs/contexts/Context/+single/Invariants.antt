@@ -42,14 +42,8 @@ decreases-negation l = 32 * l.self.now.fuel + 3
 abbrev pub decreases-array : goal.decreases-array
 decreases-array l = 32 * l.self.now.fuel + 11
 
-abbrev pub decreases-and : goal.decreases-and
-decreases-and l = 32 * l.self.now.fuel + 4
-
-abbrev pub decreases-or : goal.decreases-or
-decreases-or l = 32 * l.self.now.fuel + 4
-
-abbrev pub decreases-get_truth : goal.decreases-get_truth
-decreases-get_truth l = 32 * l.self.now.fuel + 3
+abbrev pub decreases-decided : goal.decreases-decided
+decreases-decided l = 32 * l.self.now.fuel + 4
 
 abbrev pub decreases-alternative : goal.decreases-alternative
 decreases-alternative l = 32 * l.self.now.fuel + 3
