@@ -3,7 +3,7 @@ ghost use Rattle.std.specs.Prelude.{◌≡◌, IfErr, IfNone, IfOk, IfSome, ℕ,
 ghost use Rattle.jv_data.specs.View.{view};
 ghost use Rattle.jq_ast.specs.Named.{named, name_of, named_entry};
 ghost use Rattle.jq_single.specs.private.Parts.{RunsTo, Answers, Decides, Follows, IsUntold};
-ghost use Rattle.jq_meaning.specs.Continuations.{on_target, negated, format_of, put_between, text_item};
+ghost use Rattle.jq_meaning.specs.Continuations.{on_target, format_of, put_between, text_item};
 ghost use Rattle.jq_meaning.specs.Runs.{plain, Run, Item, alternative, one, bind};
 ghost use Rattle.jv_data.specs.Shared.{text_in};
 ghost use Rattle.jv_data.specs.Text.{text_of};
@@ -182,7 +182,7 @@ impl<'s> Context<'s> {
         ensures { RunsTo self.now (form.negation (named operand.now)) (view value.now) result }
     {
         let found = self.get(operand, value)?;
-        negative(self.alloc, &found)
+        answer(neg(self.alloc, &found))
     }
 
     /// `[f]`.
@@ -431,13 +431,6 @@ fn part_at(alloc: Global, guarded: bool, target: &Val, key: &Val) -> Result<Val,
         Err(Fail::Raised(error)) => Err(refused(guarded, error)),
         Err(Fail::NoMemory) => Err(Stop::NoMemory),
     }
-}
-
-// The number with the other sign.
-fn negative(alloc: Global, value: &Val) -> Result<Val, Stop>
-    ensures { Answers result (negated (plain (view value.now))) }
-{
-    answer(neg(alloc, value))
 }
 
 // The output of the left side of `//`, if it is kept. An error ends the left side.

@@ -1,6 +1,7 @@
 use Rattle.std.proofs.Common.{rules, Ok, Err, [], ◌∷◌, List, ℕ, suc, ◌≡◌, ◌∙◌, ◌-◌, arith, length, map, true, false, refl, sym, ap, subst}
 use Rattle.std.proofs.Math.Logic.{∥∥₁_elim}
 use Rattle.std.specs.Str.{chars}
+use Rattle.jv_arith.specs.Arith.{neg_of}
 use Rattle.jv_data.specs.Held.{members_in}
 use Rattle.jv_data.proofs.shared.Levels.{view-Bool, view-List}
 use Rattle.jv_data.specs.Shared.{text_in}
@@ -124,6 +125,12 @@ slice-returns-in_err-end t c = λ inputs level.
 pub pipe-returns-in_err-between : goal.pipe-returns-in_err-between
 pipe-returns-in_err-between t c = λ inputs level.
     fails c.from_residual.result c.in_err-between.field-0.0 c.args.self.now (named c.args.first.now) (view c.args.value.now) (run c.args.self.now inputs level (named c.args.second.now)) inputs level c.from_residual.ensures.1 c.in_err-between.ensures
+
+pub negation-returns : goal.negation-returns
+unfolding negated
+negation-returns t c = λ inputs level.
+    let w = view c.in_ok-found.found in
+    answers-bind c.answer.result (run c.args.self.now inputs level (named c.args.operand.now) (plain (view c.args.value.now))) (plain w) negated (c.in_ok-found.ensures inputs level) (c.answer.ensures (neg_of w) c.neg.ensures)
 
 pub negation-returns-in_err-found : goal.negation-returns-in_err-found
 negation-returns-in_err-found t c = λ inputs level.
