@@ -221,10 +221,10 @@ impl<'s> Context<'s> {
         }
     }
 
-    /// A call, by what it finds.
+    // A call, by what it finds.
     #[cycle(single)]
     #[inline(never)]
-    pub(crate) fn change_call(
+    fn change_call(
         &self,
         found: Found<'s>,
         arguments: &'s Vec<Tree>,
@@ -310,8 +310,8 @@ impl<'s> Context<'s> {
     }
 }
 
-/// The answer of an operator replaces the left value. `+` changes a left value that is not shared in place.
-pub(crate) fn operate_in_place(
+// The answer of an operator replaces the left value. `+` changes a left value that is not shared in place.
+fn operate_in_place(
     alloc: Global,
     operator: Operator,
     left: &mut Val,

@@ -90,8 +90,8 @@ impl<'s> Context<'s> {
     }
 }
 
-/// The innermost function or parameter with this name and this number of arguments.
-pub(crate) fn callee_of<'s>(scope: &Scope<'s>, name: &Name, count: usize) -> Found<'s>
+// The innermost function or parameter with this name and this number of arguments.
+fn callee_of<'s>(scope: &Scope<'s>, name: &Name, count: usize) -> Found<'s>
     ensures { (inputs : Run Value) → found_in inputs result ≡ meaning.find_callee (name_of name.now) count (scope_env inputs scope.now) }
 {
     match scope {

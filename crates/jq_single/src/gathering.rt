@@ -323,9 +323,9 @@ impl<'s> Context<'s> {
         }
     }
 
-    /// Runs the rest of the filter on an output.
+    // Runs the rest of the filter on an output.
     #[cycle(single)]
-    pub(crate) fn give(&self, item: Item, rest: &Rest<'s>, into: &mut Vec<Val>) -> Result<(), Stop>
+    fn give(&self, item: Item, rest: &Rest<'s>, into: &mut Vec<Val>) -> Result<(), Stop>
         ensures { GathersRun (one (item_of item)) rest.now result into.old.items into.new.items }
     {
         match rest {
@@ -430,10 +430,10 @@ impl<'s> Context<'s> {
         Ok(())
     }
 
-    /// `f.a` on an item with a path.
+    // `f.a` on an item with a path.
     #[cycle(single)]
     #[inline(never)]
-    pub(crate) fn gather_field(
+    fn gather_field(
         &self,
         target: &'s Tree,
         key: &'s Key,
@@ -448,10 +448,10 @@ impl<'s> Context<'s> {
         (&*self).gather(&*target, item, &next, into)
     }
 
-    /// `f[g]` on an item with a path: the key is run first.
+    // `f[g]` on an item with a path: the key is run first.
     #[cycle(single)]
     #[inline(never)]
-    pub(crate) fn gather_index(
+    fn gather_index(
         &self,
         target: &'s Tree,
         key: &'s Tree,
@@ -471,10 +471,10 @@ impl<'s> Context<'s> {
         }
     }
 
-    /// `path(f)`.
+    // `path(f)`.
     #[cycle(single)]
     #[inline(never)]
-    pub(crate) fn gather_paths(
+    fn gather_paths(
         &self,
         arguments: &'s [Tree],
         value: &Val,
@@ -493,10 +493,10 @@ impl<'s> Context<'s> {
         }
     }
 
-    /// `range(f; g)`, where f and g have at most one output.
+    // `range(f; g)`, where f and g have at most one output.
     #[cycle(single)]
     #[inline(never)]
-    pub(crate) fn gather_range(
+    fn gather_range(
         &self,
         arguments: &'s [Tree],
         value: &Val,
@@ -546,8 +546,8 @@ fn add(into: &mut Vec<Val>, item: Item) -> Result<(), NoMemory>
     Ok(())
 }
 
-/// A run without output has ended, or ends with an error, whatever the rest of the filter is.
-pub(crate) fn ended(stop: Stop) -> Result<(), Stop>
+// A run without output has ended, or ends with an error, whatever the rest of the filter is.
+fn ended(stop: Stop) -> Result<(), Stop>
     ensures { (inputs : Run Value) (level : ℕ) (later : Rest) (r : Run runs.Item) (xs : List Val) → Ends stop r → Gathers (made inputs level later) result xs xs r }
 {
     match stop {

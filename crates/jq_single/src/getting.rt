@@ -114,26 +114,20 @@ impl<'s> Context<'s> {
         }
     }
 
-    /// `f.a`, or the part of the output of a filter at a key that is known.
+    // `f.a`, or the part of the output of a filter at a key that is known.
     #[cycle(single)]
     #[inline(never)]
-    pub(crate) fn field(
-        &self,
-        target: &'s Tree,
-        key: &Val,
-        guarded: bool,
-        value: &Val,
-    ) -> Result<Val, Stop>
+    fn field(&self, target: &'s Tree, key: &Val, guarded: bool, value: &Val) -> Result<Val, Stop>
         ensures { Follows self.now (named target.now) (view value.now) (on_target guarded (view key.now)) result }
     {
         let found = self.get_part(target, value)?;
         part_at(self.alloc, guarded, &found, key)
     }
 
-    /// `f[g]`: the key is run first.
+    // `f[g]`: the key is run first.
     #[cycle(single)]
     #[inline(never)]
-    pub(crate) fn index(
+    fn index(
         &self,
         target: &'s Tree,
         key: &'s Tree,
@@ -146,10 +140,10 @@ impl<'s> Context<'s> {
         self.field(target, &at, guarded, value)
     }
 
-    /// `f[g:h]`: the start is run first, and then the end.
+    // `f[g:h]`: the start is run first, and then the end.
     #[cycle(single)]
     #[inline(never)]
-    pub(crate) fn slice(
+    fn slice(
         &self,
         target: &'s Tree,
         from: &'s Tree,
@@ -165,30 +159,30 @@ impl<'s> Context<'s> {
         self.field(target, &bounds, guarded, value)
     }
 
-    /// `f | g`.
+    // `f | g`.
     #[cycle(single)]
     #[inline(never)]
-    pub(crate) fn pipe(&self, first: &'s Tree, second: &'s Tree, value: &Val) -> Result<Val, Stop>
+    fn pipe(&self, first: &'s Tree, second: &'s Tree, value: &Val) -> Result<Val, Stop>
         ensures { RunsTo self.now (form.pipe (named first.now) (named second.now)) (view value.now) result }
     {
         let between = self.get(first, value)?;
         self.get(second, &between)
     }
 
-    /// `-f`.
+    // `-f`.
     #[cycle(single)]
     #[inline(never)]
-    pub(crate) fn negation(&self, operand: &'s Tree, value: &Val) -> Result<Val, Stop>
+    fn negation(&self, operand: &'s Tree, value: &Val) -> Result<Val, Stop>
         ensures { RunsTo self.now (form.negation (named operand.now)) (view value.now) result }
     {
         let found = self.get(operand, value)?;
         answer(neg(self.alloc, &found))
     }
 
-    /// `[f]`.
+    // `[f]`.
     #[cycle(single)]
     #[inline(never)]
-    pub(crate) fn array(&self, filter: &'s Tree, value: &Val) -> Result<Val, Stop>
+    fn array(&self, filter: &'s Tree, value: &Val) -> Result<Val, Stop>
         ensures { RunsTo self.now (form.array (named filter.now)) (view value.now) result }
     {
         let mut items = Vec::new(self.alloc);
@@ -198,7 +192,7 @@ impl<'s> Context<'s> {
         Ok(Val::List(Array::from_vec(self.alloc, items)?))
     }
 
-    /// `f or g`, where true decides, and `f and g`, where false does. The right side is run if the left side does not decide.
+    // `f or g`, where true decides, and `f and g`, where false does. The right side is run if the left side does not decide.
     #[cycle(single)]
     #[inline(never)]
     fn decided(&self, by: bool, left: &'s Tree, right: &'s Tree, value: &Val) -> Result<Val, Stop>
@@ -212,15 +206,10 @@ impl<'s> Context<'s> {
         Ok(Val::Bool(truth(&second)))
     }
 
-    /// `f // g`.
+    // `f // g`.
     #[cycle(single)]
     #[inline(never)]
-    pub(crate) fn alternative(
-        &self,
-        left: &'s Tree,
-        right: &'s Tree,
-        value: &Val,
-    ) -> Result<Val, Stop>
+    fn alternative(&self, left: &'s Tree, right: &'s Tree, value: &Val) -> Result<Val, Stop>
         ensures { RunsTo self.now (form.alternative (named left.now) (named right.now)) (view value.now) result }
     {
         match kept(self.get(left, value)) {
@@ -230,15 +219,10 @@ impl<'s> Context<'s> {
         }
     }
 
-    /// `try f catch g`.
+    // `try f catch g`.
     #[cycle(single)]
     #[inline(never)]
-    pub(crate) fn try_catch(
-        &self,
-        body: &'s Tree,
-        handler: &'s Tree,
-        value: &Val,
-    ) -> Result<Val, Stop>
+    fn try_catch(&self, body: &'s Tree, handler: &'s Tree, value: &Val) -> Result<Val, Stop>
         ensures { RunsTo self.now (form.try_catch (named body.now) (named handler.now)) (view value.now) result }
     {
         match self.get(body, value) {
@@ -250,10 +234,10 @@ impl<'s> Context<'s> {
         }
     }
 
-    /// `"a\(f)b"`, `@name "a\(f)b"`.
+    // `"a\(f)b"`, `@name "a\(f)b"`.
     #[cycle(single)]
     #[inline(never)]
-    pub(crate) fn text(
+    fn text(
         &self,
         format: &Name,
         pieces: &'s [Piece<Tree>],
@@ -314,10 +298,10 @@ impl<'s> Context<'s> {
         inserted(text_in_format(self.alloc, format, front, &found, back.as_str())?)
     }
 
-    /// `{..}`. An entry that has a computed key and no value is not run at once.
+    // `{..}`. An entry that has a computed key and no value is not run at once.
     #[cycle(single)]
     #[inline(never)]
-    pub(crate) fn object(&self, entries: &'s [Entry<Tree>], value: &Val) -> Result<Val, Stop>
+    fn object(&self, entries: &'s [Entry<Tree>], value: &Val) -> Result<Val, Stop>
         ensures { RunsTo self.now (form.object (named_entries entries.now)) (view value.now) result }
     {
         let made = Object::new(self.alloc)?;
@@ -463,8 +447,8 @@ fn inserted(text: Inserted) -> Result<SharedText, Stop>
     }
 }
 
-/// `@name`.
-pub(crate) fn get_format(alloc: Global, format: &Name, value: &Val) -> Result<Val, Stop>
+// `@name`.
+fn get_format(alloc: Global, format: &Name, value: &Val) -> Result<Val, Stop>
     ensures { Answers result (bind (put_between [] [] (format_of (name_of format.now) (view value.now))) text_item) }
 {
     match inserted(text_in_format(alloc, format, "", value, "")?) {

@@ -166,9 +166,9 @@ impl<'s> Context<'s> {
         }
     }
 
-    /// Replaces the value by the first output of a filter.
+    // Replaces the value by the first output of a filter.
     #[cycle(single)]
-    pub(crate) fn change_first(&self, tree: &'s Tree, value: &mut Val) -> Result<(), Stop>
+    fn change_first(&self, tree: &'s Tree, value: &mut Val) -> Result<(), Stop>
         ensures runs { ChangesToFirst self.now (named tree.now) (view value.old) (view value.new) result }
         ensures keeps { Keeps result (view value.old) (view value.new) }
     {
