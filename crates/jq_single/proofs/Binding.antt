@@ -1,7 +1,7 @@
 -- What is claimed of a run that goes on with another filter, of outputs that are added to a list, and of the steps of a fold.
 use Rattle.std.proofs.Common.{◌≡◌, ◌∙◌, ℕ, List, Bool, true, false, Result, Ok, Err, refl, sym, ap, subst, [], ◌∷◌, ◌++◌, map, reverse, length, Option, Some, option_to_list, arith, None, IfSome}
 use Rattle.std.specs.Result.{IsErrAnd}
-use Rattle.jv_data.specs.Value.{Value, boolean, array, items_of, values_of, null}
+use Rattle.jv_data.specs.Value.{Value, Members, boolean, array, items_of, values_of, null}
 use Rattle.jv_data.specs.declared.values.Val.{Val}
 use Rattle.jq_natives.specs.Answers.{is_true}
 use Rattle.jq_meaning.specs.Continuations.{truth, on_conjunct, on_disjunct, on_error, on_source, in_bindings, on_test, on_state}
@@ -12,8 +12,9 @@ use Rattle.jq_meaning.specs.Runs.{Item, plain, Run, one, fail, bind, catch, valu
 use Rattle.jq_meaning.proofs.shared.machine.RunLaws.{bind-one, bind-bind, bind-one_right, bind-then_run, then_run-assoc, then_run-none}
 use Rattle.jq_single.specs.Single.{Ends, Changed, Keeps, Leaves}
 use Rattle.jq_single.specs.private.Gathering.{GoesOn, Gathers, GathersAll, given_of, made, rest_run, folded, last_or, state_in, turn}
+use Rattle.jv_data.specs.declared.containers.objects.Object.{Object}
 use Rattle.jv_data.specs.declared.containers.texts.SharedText.{SharedText}
-use Rattle.jq_single.specs.private.Making.{TextAnswers}
+use Rattle.jq_single.specs.private.Making.{Adds, TextAnswers}
 use Rattle.jq_single.specs.private.Parts.{Answers, IsUntold, RunsTo, on_decided, run}
 use Rattle.jq_single.specs.declared.stops.Stop.{Stop}
 use Rattle.std.proofs.lemmas.List.{append-nil, map-append, reverse-append}
@@ -122,6 +123,15 @@ unfolding on_source in_bindings
 with_variable deeper r n w e k body x h =
     ap (λ q. bind (bind q (on_source (bindings_with deeper (tree.whole n) k) e)) (in_bindings body k x)) h
     ∙ bind-one (bound (value_of n w) e) (in_bindings body k x)
+
+-- ---- objects
+
+pub adds-bind : (a : Result (Object Val) Stop) (later : Members → Run Item) (r : Run Item) (x : Item) (g : Item → Run Item) → r ≡ one x → Adds a later (g x) → Adds a later (bind r g)
+adds-bind a later r x g e = subst (Adds a later) (sym (bind-known r x g e))
+
+pub adds-stops : (a : Result (Object Val) Stop) (s : Stop) (later : Members → Run Item) (r : Run Item) → IsErrAnd a (λ e. e ≡ s) → Ends s r → Adds a later r
+adds-stops (Ok v) s later r h k = absurd h
+adds-stops (Err e) s later r h k = subst (λ z. Ends z r) (sym h) k
 
 -- ---- texts
 

@@ -10,9 +10,8 @@ ghost use Rattle.jv_data.specs.Text.{text_of};
 ghost use Rattle.jv_text.specs.Formats.{Text};
 ghost use Rattle.jq_operations.specs.Outputs.{Inserts};
 ghost use Rattle.jq_operations.specs.Pieces.{named_pieces};
-ghost use Rattle.jq_single.specs.private.Making.{RunsPieces, TextAnswers, RunsEntries, RunsKeyed, RunsMember};
+ghost use Rattle.jq_single.specs.private.Making.{AddsEntry, AddsKeyed, AddsMember, RunsPieces, TextAnswers};
 ghost use Rattle.jv_data.specs.Held.{members_in};
-ghost use Rattle.jq_tree.specs.Tree.{more_entries};
 ghost use Rattle.jq_state.specs.Steps.{named_entries};
 ghost use Rattle.jq_tree.specs.Tree as form;
 
@@ -304,43 +303,29 @@ impl<'s> Context<'s> {
     fn object(&self, entries: &'s [Entry<Tree>], value: &Val) -> Result<Val, Stop>
         ensures { RunsTo self.now (form.object (named_entries entries.now)) (view value.now) result }
     {
-        let made = Object::new(self.alloc)?;
-        self.entries(entries, made, value)
-    }
-
-    // The remaining entries of an object that is made so far.
-    #[cycle(single)]
-    fn entries(
-        &self,
-        entries: &'s [Entry<Tree>],
-        made: Object<Val>,
-        value: &Val,
-    ) -> Result<Val, Stop>
-        ensures { RunsEntries self.now (named_entries entries.now) (members_in made) (view value.now) result }
-    {
-        match entries {
-            [] => Ok(Val::Table(made)),
-            [entry, later @ ..] => self.entry(entry, later, made, value),
+        let mut made = Object::new(self.alloc)?;
+        for entry in entries {
+            made = self.with_entry(entry, made, value)?;
         }
+        Ok(Val::Table(made))
     }
 
-    // An entry, and those after it.
+    // The object that is made so far with the member of an entry.
     #[cycle(single)]
-    fn entry(
+    fn with_entry(
         &self,
         entry: &'s Entry<Tree>,
-        later: &'s [Entry<Tree>],
         made: Object<Val>,
         value: &Val,
-    ) -> Result<Val, Stop>
-        ensures { RunsEntries self.now (more_entries (named_entry entry.now) (named_entries later.now)) (members_in made) (view value.now) result }
+    ) -> Result<Object<Val>, Stop>
+        ensures { AddsEntry self.now (named_entry entry.now) (members_in made) (view value.now) result }
     {
         match entry {
             Entry::Named(key, filter) => {
                 let key = entry_key(key)?;
-                self.member(&key, filter, later, made, value)
+                self.member(&key, filter, made, value)
             }
-            Entry::Computed(key, filter) => self.computed(key, filter, later, made, value),
+            Entry::Computed(key, filter) => self.computed(key, filter, made, value),
             Entry::Own(_) => Err(Stop::Unknown),
         }
     }
@@ -352,14 +337,13 @@ impl<'s> Context<'s> {
         &self,
         key: &'s Tree,
         filter: &'s Tree,
-        later: &'s [Entry<Tree>],
         made: Object<Val>,
         value: &Val,
-    ) -> Result<Val, Stop>
-        ensures { RunsEntries self.now (more_entries (form.computed (named key.now) (named filter.now)) (named_entries later.now)) (members_in made) (view value.now) result }
+    ) -> Result<Object<Val>, Stop>
+        ensures { AddsEntry self.now (form.computed (named key.now) (named filter.now)) (members_in made) (view value.now) result }
     {
         let found = self.get(key, value)?;
-        self.keyed(found, filter, later, made, value)
+        self.keyed(found, filter, made, value)
     }
 
     // The key of an entry is known. It must be a string.
@@ -368,16 +352,15 @@ impl<'s> Context<'s> {
         &self,
         key: Val,
         filter: &'s Tree,
-        later: &'s [Entry<Tree>],
         made: Object<Val>,
         value: &Val,
-    ) -> Result<Val, Stop>
-        ensures { RunsKeyed self.now (view key) (named filter.now) (named_entries later.now) (members_in made) (view value.now) result }
+    ) -> Result<Object<Val>, Stop>
+        ensures { AddsKeyed self.now (view key) (named filter.now) (members_in made) (view value.now) result }
     {
         let Val::Text(_) = &key else {
             return Err(Stop::Raised(key_error(self.alloc)?));
         };
-        self.member(&key.into_text(), filter, later, made, value)
+        self.member(&key.into_text(), filter, made, value)
     }
 
     // An entry whose key is known.
@@ -387,22 +370,13 @@ impl<'s> Context<'s> {
         &self,
         key: &SharedText,
         filter: &'s Tree,
-        later: &'s [Entry<Tree>],
         made: Object<Val>,
         value: &Val,
-    ) -> Result<Val, Stop>
-        ensures { RunsMember self.now (text_in key.now) (named filter.now) (named_entries later.now) (members_in made) (view value.now) result }
+    ) -> Result<Object<Val>, Stop>
+        ensures { AddsMember self.now (text_in key.now) (named filter.now) (members_in made) (view value.now) result }
     {
         let found = self.get(filter, value)?;
-        let longer = with_member(self.alloc, made, key, found)?;
-        if self.fuel == 0 {
-            return Err(Stop::Unknown);
-        }
-        let inside = Context {
-            fuel: self.fuel - 1,
-            ..*self
-        };
-        inside.entries(later, longer, value)
+        Ok(with_member(self.alloc, made, key, found)?)
     }
 }
 

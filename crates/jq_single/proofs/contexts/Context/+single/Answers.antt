@@ -32,13 +32,13 @@ use Rattle.jq_meaning.proofs.shared.machine.RunLaws.{bind-bind, bind-then_run}
 use Rattle.jq_single.specs.private.Gathering.{Gathers, GathersOf, folded, made, rest_run, supplied, state_in, turn}
 use Rattle.jq_state.specs.Items.{item_of}
 use Rattle.jq_state.proofs.shared.Items.{absent, value_of_item}
-use Rattle.jq_single.specs.private.Making.{entries_in}
+use Rattle.jq_single.specs.private.Making.{Adds, entries_in}
 use Rattle.jq_single.specs.private.Updates.{listed, part_run, path_run}
 use Rattle.jq_meaning.specs.laws.Updating.{turn_of, turns}
 use Rattle.jq_single.specs.private.Parts.{Answers, Calls, ChangesTo, builtin_in, on_decided, run}
 use Rattle.jq_single.specs.Single.{Changed, Ends}
 use Rattle.jq_single.specs.private.FirstOutputs.{first_alone}
-use Rattle.jq_single.proofs.Binding.{bind-known, ends-bind, fails, ends-after, answers-bind, changed-bind, changed-stops, goes-changed, keeps-stops, leaves_same, stops, untold, decided_by, decided_else, truth_of, caught, with_variable, text-bind, text-stops, gathers-none, gathers-then, gathers-fail, gathers_all, gives_first, stops_first, stops-then, gathered_list, ends_gathered, bound_rest, picks_holds, picks_fails, fold_value, turned, fold_ends, single_fold}
+use Rattle.jq_single.proofs.Binding.{adds-bind, adds-stops, bind-known, ends-bind, fails, ends-after, answers-bind, changed-bind, changed-stops, goes-changed, keeps-stops, leaves_same, stops, untold, decided_by, decided_else, truth_of, caught, with_variable, text-bind, text-stops, gathers-none, gathers-then, gathers-fail, gathers_all, gives_first, stops_first, stops-then, gathered_list, ends_gathered, bound_rest, picks_holds, picks_fails, fold_value, turned, fold_ends, single_fold}
 use Rattle.jq_single.specs.declared.rests.Rest.{Rest}
 use Rattle.jq_single.specs.declared.rests.Rest.TheVariants as rest
 use Rattle.jq_single.proofs.UpdateTurns.{changed-first, first-then, changed-prop, getpath_keys, known_paths, listed_more, modify_tree, turn_lists, turn_raises, turn_sets, two_calls_deep}
@@ -709,47 +709,50 @@ first_piece-returns-in_err-found t c = λ inputs level.
 
 -- ---- objects
 
-pub entry-returns-in_ok-key-in-Named : goal.entry-returns-in_ok-key-in-Named
-entry-returns-in_ok-key-in-Named t c = λ inputs level.
+pub with_entry-returns-in_ok-key-in-Named : goal.with_entry-returns-in_ok-key-in-Named
+with_entry-returns-in_ok-key-in-Named t c = λ inputs level es.
     let p = c.args.self.now in
     let v = view c.args.value.now in
-    let es = named_entries c.args.later.now in
     let made = members_in c.args.made in
-    subst (λ (e : Entry). Answers c.member.result (entries_in p inputs level (more_entries e es) v made)) (sym (ap named_entry c.in-Named.is))
-    (subst (λ (s : List ℕ). Answers c.member.result (bind (run p inputs level (named c.in-Named.filter) (plain v)) (on_entry (entries_in p inputs level es v) made s))) c.in_ok-key-in-Named.ensures
-    (c.member.ensures inputs level))
+    let later : Members → Run Item = entries_in p inputs level es v in
+    subst (λ (e : Entry). Adds c.member.result later (entries_in p inputs level (more_entries e es) v made)) (sym (ap named_entry c.in-Named.is))
+    (subst (λ (s : List ℕ). Adds c.member.result later (bind (run p inputs level (named c.in-Named.filter) (plain v)) (on_entry later made s))) c.in_ok-key-in-Named.ensures
+    (c.member.ensures inputs level later))
 
 pub computed-returns : goal.computed-returns
 unfolding on_entry_key
-computed-returns t c = λ inputs level.
+computed-returns t c = λ inputs level es.
     let p = c.args.self.now in
     let v = view c.args.value.now in
-    let later : Members → Run Item = entries_in p inputs level (named_entries c.args.later.now) v in
-    let filter = run p inputs level (named c.args.filter.now) (plain v) in
-    answers-bind c.keyed.result (run p inputs level (named c.args.key.now) (plain v)) (plain (view c.in_ok-found.found)) (on_entry_key filter later (members_in c.args.made))
-    (c.in_ok-found.ensures inputs level) (c.keyed.ensures inputs level)
+    let made = members_in c.args.made in
+    let later : Members → Run Item = entries_in p inputs level es v in
+    adds-bind c.keyed.result later (run p inputs level (named c.args.key.now) (plain v)) (plain (view c.in_ok-found.found)) (on_entry_key (run p inputs level (named c.args.filter.now) (plain v)) later made)
+    (c.in_ok-found.ensures inputs level) (c.keyed.ensures inputs level later)
 
 pub keyed-returns : goal.keyed-returns
-keyed-returns t c = λ inputs level. rw c.into_text.ensures (c.member.ensures inputs level)
+keyed-returns t c = λ inputs level later. rw c.into_text.ensures (c.member.ensures inputs level later)
 
 pub computed-returns-in_err-found : goal.computed-returns-in_err-found
-computed-returns-in_err-found t c = λ inputs level.
-    fails c.from_residual.result c.in_err-found.field-0.0 c.args.self.now (named c.args.key.now) (view c.args.value.now) (on_entry_key (run c.args.self.now inputs level (named c.args.filter.now) (plain (view c.args.value.now))) (entries_in c.args.self.now inputs level (named_entries c.args.later.now) (view c.args.value.now)) (members_in c.args.made)) inputs level c.from_residual.ensures.1 c.in_err-found.ensures
+computed-returns-in_err-found t c = λ inputs level es.
+    let p = c.args.self.now in
+    let v = view c.args.value.now in
+    let made = members_in c.args.made in
+    let later : Members → Run Item = entries_in p inputs level es v in
+    let key = run p inputs level (named c.args.key.now) (plain v) in
+    let on_key : Item → Run Item = on_entry_key (run p inputs level (named c.args.filter.now) (plain v)) later made in
+    adds-stops c.from_residual.result c.in_err-found.field-0.0 later (bind key on_key) c.from_residual.ensures.1 (ends-bind c.in_err-found.field-0.0 key on_key (c.in_err-found.ensures inputs level))
 
 pub member-returns : goal.member-returns
 unfolding on_entry
-member-returns t c = λ inputs level.
-    let p = c.args.self.now in
-    let v = view c.args.value.now in
-    let later : Members → Run Item = entries_in p inputs level (named_entries c.args.later.now) v in
-    let filter = run p inputs level (named c.args.filter.now) (plain v) in
-    answers-bind c.entries.result filter (plain (view c.in_ok-found.found)) (on_entry later (members_in c.args.made) (text_in c.args.key.now))
-    (c.in_ok-found.ensures inputs level)
-    (subst (λ (m : Members). Answers c.entries.result (later m)) c.in_ok-longer.ensures (c.entries.ensures inputs level))
+member-returns t c = λ inputs level later.
+    bind-known (run c.args.self.now inputs level (named c.args.filter.now) (plain (view c.args.value.now))) (plain (view c.in_ok-found.found)) (on_entry later (members_in c.args.made) (text_in c.args.key.now)) (c.in_ok-found.ensures inputs level)
+    ∙ ap later (sym c.in_ok-with_member.ensures)
 
 pub member-returns-in_err-found : goal.member-returns-in_err-found
-member-returns-in_err-found t c = λ inputs level.
-    fails c.from_residual.result c.in_err-found.field-0.0 c.args.self.now (named c.args.filter.now) (view c.args.value.now) (on_entry (entries_in c.args.self.now inputs level (named_entries c.args.later.now) (view c.args.value.now)) (members_in c.args.made) (text_in c.args.key.now)) inputs level c.from_residual.ensures.1 c.in_err-found.ensures
+member-returns-in_err-found t c = λ inputs level later.
+    let r = run c.args.self.now inputs level (named c.args.filter.now) (plain (view c.args.value.now)) in
+    let on_value : Item → Run Item = on_entry later (members_in c.args.made) (text_in c.args.key.now) in
+    adds-stops c.from_residual.result c.in_err-found.field-0.0 later (bind r on_value) c.from_residual.ensures.1 (ends-bind c.in_err-found.field-0.0 r on_value (c.in_err-found.ensures inputs level))
 
 -- ---- folds
 

@@ -1,5 +1,6 @@
 use Rattle.std.proofs.Common.{◌≡◌, ℕ, ◌+◌, ◌*◌, List, [], drop, length, map, Result}
-use Rattle.jv_data.specs.Value.{Value, array, items_of}
+use Rattle.jv_data.specs.Held.{members_in}
+use Rattle.jv_data.specs.Value.{Value, array, items_of, no_members}
 use Rattle.jv_data.specs.View.{view}
 use Rattle.jv_data.specs.declared.values.Val.{Val}
 use Rattle.jq_ast.specs.Named.{named}
@@ -7,7 +8,9 @@ use Rattle.jq_meaning.specs.Runs.{Done, Run, bind}
 use Rattle.jq_meaning.specs.laws.Updating.{turns}
 use Rattle.jq_single.specs.declared.stops.Stop.{Stop}
 use Rattle.jq_single.specs.private.Gathering.{Gathers, made, rest_run, supplied}
+use Rattle.jq_single.specs.private.Making.{entries_in}
 use Rattle.jq_single.specs.private.Updates.{listed, part_run}
+use Rattle.jq_state.specs.Steps.{named_entries}
 use Rattle.jq_single.proofs.contexts.Context.+single.Given as goal
 
 -- the fuel, with an offset so that a helper has a smaller measure than its caller
@@ -54,11 +57,8 @@ decreases-try_catch l = 32 * l.self.now.fuel + 3
 abbrev pub decreases-object : goal.decreases-object
 decreases-object l = 32 * l.self.now.fuel + 11
 
-abbrev pub decreases-entries : goal.decreases-entries
-decreases-entries l = 32 * l.self.now.fuel + 10
-
-abbrev pub decreases-entry : goal.decreases-entry
-decreases-entry l = 32 * l.self.now.fuel + 9
+abbrev pub decreases-with_entry : goal.decreases-with_entry
+decreases-with_entry l = 32 * l.self.now.fuel + 9
 
 abbrev pub decreases-computed : goal.decreases-computed
 decreases-computed l = 32 * l.self.now.fuel + 8
@@ -237,3 +237,9 @@ invariant-change_each-loop-path l =
     (inputs : Run Value) (level : ℕ)
     → turns level (part_run l.self inputs level (named l.update)) (map view (drop l.path-index l.paths)) Done (view l.value) (listed l.without.items)
     ≡ turns level (part_run l.self inputs level (named l.update)) (map view l.paths) Done (view l.initial.value) (array (items_of []))
+
+abbrev pub invariant-object-loop-entry : goal.invariant-object-loop-entry
+invariant-object-loop-entry l =
+    (inputs : Run Value) (level : ℕ)
+    → entries_in l.self inputs level (named_entries (drop l.entry-index l.entries)) (view l.value) (members_in l.made)
+    ≡ entries_in l.self inputs level (named_entries l.entries) (view l.value) no_members
