@@ -1,7 +1,7 @@
 -- What is claimed of a run that goes on with another filter, of outputs that are added to a list, and of the steps of a fold.
 use Rattle.std.proofs.Common.{◌≡◌, ◌∙◌, ℕ, List, Bool, true, false, Result, Ok, Err, refl, sym, ap, subst, [], ◌∷◌, ◌++◌, map, reverse, length, Option, Some, option_to_list, arith, None, IfSome}
 use Rattle.std.specs.Result.{IsErrAnd}
-use Rattle.jv_data.specs.Value.{Value, Members, boolean, array, items_of, values_of, null}
+use Rattle.jv_data.specs.Value.{Value, boolean, array, items_of, values_of, null}
 use Rattle.jv_data.specs.declared.values.Val.{Val}
 use Rattle.jq_natives.specs.Answers.{is_true}
 use Rattle.jq_meaning.specs.Continuations.{truth, on_conjunct, on_disjunct, on_error, on_source, in_bindings, on_test, on_state}
@@ -10,12 +10,9 @@ use Rattle.jq_meaning.specs.Env.{Env, bound, value_of}
 use Rattle.jq_meaning.specs.Meaning.{Means, bindings_with, meaning}
 use Rattle.jq_meaning.specs.Runs.{Item, plain, Run, one, fail, bind, catch, value_in, Ending, Done, Raised, Broken, Stopped, none, before, then_run, bind_items, gathered, located, path_error, go_on}
 use Rattle.jq_meaning.proofs.shared.machine.RunLaws.{bind-one, bind-bind, bind-one_right, bind-then_run, then_run-assoc, then_run-none}
-use Rattle.jq_single.specs.Single.{Ends, Changed, Keeps, Leaves}
+use Rattle.jq_single.specs.Single.{Ends, Comes, Keeps, Leaves}
 use Rattle.jq_single.specs.private.Gathering.{GoesOn, Gathers, GathersAll, given_of, made, rest_run, folded, last_or, state_in, turn}
-use Rattle.jv_data.specs.declared.containers.objects.Object.{Object}
-use Rattle.jv_data.specs.declared.containers.texts.SharedText.{SharedText}
-use Rattle.jq_single.specs.private.Making.{Adds, TextAnswers}
-use Rattle.jq_single.specs.private.Parts.{Answers, IsUntold, RunsTo, on_decided, run}
+use Rattle.jq_single.specs.private.Parts.{IsUntold, RunsTo, on_decided, run}
 use Rattle.jq_single.specs.declared.stops.Stop.{Stop}
 use Rattle.std.proofs.lemmas.List.{append-nil, map-append, reverse-append}
 use Rattle.jv_data.proofs.shared.Items.{values_of-items_of}
@@ -43,11 +40,9 @@ ends-bind stop.Unknown r g e = tt
 pub bind-known : {A B : Type 0} (r : Run A) (x : A) (g : A → Run B) → r ≡ one x → bind r g ≡ g x
 bind-known r x g e = ap (λ q. bind q g) e ∙ bind-one x g
 
-pub answers-bind : (a : Result Val Stop) (r : Run Item) (x : Item) (g : Item → Run Item) → r ≡ one x → Answers a (g x) → Answers a (bind r g)
-answers-bind a r x g e = subst (Answers a) (sym (bind-known r x g e))
-
-pub changed-bind : {A : Type 0} (a : Result A Stop) (w : Value) (r : Run Item) (x : Item) (g : Item → Run Item) → r ≡ one x → Changed a w (g x) → Changed a w (bind r g)
-changed-bind a w r x g e = subst (Changed a w) (sym (bind-known r x g e))
+pub comes-bind : {V A B : Type 0} {to : V → Run B} (a : Result V Stop) (r : Run A) (x : A) (g : A → Run B) → r ≡ one x → Comes to a (g x) → Comes to a (bind r g)
+comes-bind (Ok v) r x g e h = bind-known r x g e ∙ h
+comes-bind (Err s) r x g e h = subst (Ends s) (sym (bind-known r x g e)) h
 
 pub untold : {A : Type 0} (s : Stop) (r : Run A) → IsUntold s → Ends s r
 untold stop.Nothing r h = absurd h
@@ -66,30 +61,17 @@ leaves_same stop.NoMemory v = tt
 leaves_same stop.Unknown v = refl
 
 -- an error of a part, after `?`
-pub stops : (a : Result Val Stop) (s : Stop) (r : Run Item) → IsErrAnd a (λ e. e ≡ s) → Ends s r → Answers a r
+pub stops : {V B : Type 0} {to : V → Run B} (a : Result V Stop) (s : Stop) (r : Run B) → IsErrAnd a (λ e. e ≡ s) → Ends s r → Comes to a r
 stops (Ok v) s r h k = absurd h
 stops (Err e) s r h k = subst (λ z. Ends z r) (sym h) k
 
-pub fails : (a : Result Val Stop) (s : Stop) (p : Context) (t : Tree) (v : Value) (g : Item → Run Item) (inputs : Run Value) (level : ℕ) → IsErrAnd a (λ e. e ≡ s) → RunsTo p t v (Err s)
-    → Answers a (bind (run p inputs level t (plain v)) g)
+pub fails : {V B : Type 0} {to : V → Run B} (a : Result V Stop) (s : Stop) (p : Context) (t : Tree) (v : Value) (g : Item → Run B) (inputs : Run Value) (level : ℕ) → IsErrAnd a (λ e. e ≡ s) → RunsTo p t v (Err s)
+    → Comes to a (bind (run p inputs level t (plain v)) g)
 fails a s p t v g inputs level h k = stops a s (bind (run p inputs level t (plain v)) g) h (ends-bind s (run p inputs level t (plain v)) g (k inputs level))
-
-pub text-stops : (a : Result SharedText Stop) (s : Stop) (r : Run (List ℕ)) → IsErrAnd a (λ e. e ≡ s) → Ends s r → TextAnswers a r
-text-stops (Ok v) s r h k = absurd h
-text-stops (Err e) s r h k = subst (λ z. Ends z r) (sym h) k
-
-pub changed-stops : {A : Type 0} (a : Result A Stop) (s : Stop) (w : Value) (r : Run Item) → IsErrAnd a (λ e. e ≡ s) → Ends s r → Changed a w r
-changed-stops (Ok v) s w r h k = absurd h
-changed-stops (Err e) s w r h k = subst (λ z. Ends z r) (sym h) k
 
 pub keeps-stops : {A : Type 0} (a : Result A Stop) (s : Stop) (v : Value) → IsErrAnd a (λ e. e ≡ s) → Keeps a v v
 keeps-stops (Ok d) s v h = absurd h
 keeps-stops (Err e) s v h = leaves_same e v
-
--- the next state is the output
-pub goes-changed : {A : Type 0} (a : Result A Stop) (w : Value) (r : Run Item) → GoesOn a (one (plain w)) r → Changed a w r
-goes-changed (Ok d) w r h = h
-goes-changed (Err s) w r h = h
 
 -- ---- conditions
 
@@ -123,20 +105,6 @@ unfolding on_source in_bindings
 with_variable deeper r n w e k body x h =
     ap (λ q. bind (bind q (on_source (bindings_with deeper (tree.whole n) k) e)) (in_bindings body k x)) h
     ∙ bind-one (bound (value_of n w) e) (in_bindings body k x)
-
--- ---- objects
-
-pub adds-bind : (a : Result (Object Val) Stop) (later : Members → Run Item) (r : Run Item) (x : Item) (g : Item → Run Item) → r ≡ one x → Adds a later (g x) → Adds a later (bind r g)
-adds-bind a later r x g e = subst (Adds a later) (sym (bind-known r x g e))
-
-pub adds-stops : (a : Result (Object Val) Stop) (s : Stop) (later : Members → Run Item) (r : Run Item) → IsErrAnd a (λ e. e ≡ s) → Ends s r → Adds a later r
-adds-stops (Ok v) s later r h k = absurd h
-adds-stops (Err e) s later r h k = subst (λ z. Ends z r) (sym h) k
-
--- ---- texts
-
-pub text-bind : {A : Type 0} (a : Result SharedText Stop) (r : Run A) (x : A) (g : A → Run (List ℕ)) → r ≡ one x → TextAnswers a (g x) → TextAnswers a (bind r g)
-text-bind a r x g e = subst (TextAnswers a) (sym (bind-known r x g e))
 
 -- without an output nothing changes
 pub gathers-none : {A : Type 0} (make : List Val → Run Item → Run Item) (d : A) (xs : List Val) (r : Run Item) → r ≡ none → Gathers make (Ok d) xs xs r

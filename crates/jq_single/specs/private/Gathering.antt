@@ -17,7 +17,7 @@ use Rattle.jq_meaning.specs.Runs.{Item, plain, value_in, Done, Run, none, one, g
 use Rattle.jq_meaning.specs.Steps.{each_part}
 use Rattle.jq_state.specs.Items.{item_of}
 use Rattle.jq_state.specs.declared.items.Item as items
-use Rattle.jq_single.specs.Single.{Changed, Ends}
+use Rattle.jq_single.specs.Single.{Changed, Comes, Ends}
 use Rattle.jq_single.specs.private.Parts.{ChangesTo, body_in, builtin_in, run}
 use Rattle.jq_single.specs.private.Scopes.{scope_env}
 use Rattle.jq_single.specs.declared.contexts.Context.{Context}
@@ -114,8 +114,7 @@ GathersAll p t v (Err s) xs = Unit {0}
 
 -- A fold goes on with the next state, or the update stopped.
 abbrev pub GoesOn : {A : Type 0} → Result A Stop → (later : Run Item) → Run Item → Type 0
-GoesOn (Ok done) q r = r ≡ q
-GoesOn (Err s) q r = Ends s r
+GoesOn a q r = Comes (λ done. q) a r
 
 -- The next state of an update, whose variable is bound to a value, takes the place of the state, whatever is done with it.
 abbrev pub Turns : {A : Type 0} → Context → Name → Tree → (single : Value) → (before later : Value) → Result A Stop → Type 0

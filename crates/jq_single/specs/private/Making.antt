@@ -1,5 +1,5 @@
 -- The outputs of the parts of objects and strings.
-use Rattle.std.specs.Prelude.{◌≡◌, ℕ, List, Result, Ok, Err}
+use Rattle.std.specs.Prelude.{ℕ, List, Result}
 use Rattle.jv_data.specs.Held.{members_in}
 use Rattle.jv_data.specs.Shared.{text_in}
 use Rattle.jv_data.specs.Value.{Value, Members}
@@ -10,7 +10,7 @@ use Rattle.jq_tree.specs.Tree.{Name, Tree, Entry, Entries, Pieces, more_entries}
 use Rattle.jq_meaning.specs.Continuations.{on_entry, with_key}
 use Rattle.jq_meaning.specs.Meaning.{below, entries_with, pieces_with}
 use Rattle.jq_meaning.specs.Runs.{Item, plain, Run, one, bind}
-use Rattle.jq_single.specs.Single.{Ends}
+use Rattle.jq_single.specs.Single.{Comes}
 use Rattle.jq_single.specs.private.Parts.{run}
 use Rattle.jq_single.specs.private.Scopes.{scope_env}
 use Rattle.jq_single.specs.declared.contexts.Context.{Context}
@@ -24,8 +24,7 @@ entries_in p inputs level es v made = entries_with (below p.depth) es (scope_env
 
 -- A member is added, whatever is done with the object, or nothing comes of a run.
 abbrev pub Adds : Result (Object Val) Stop → (later : Members → Run Item) → Run Item → Type 0
-Adds (Ok o) later r = r ≡ later (members_in o)
-Adds (Err s) later r = Ends s r
+Adds a later r = Comes (λ o. later (members_in o)) a r
 
 -- An entry adds a member to the object that is made so far, whatever the later entries are.
 abbrev pub AddsEntry : Context → Entry → (made : Members) → Value → Result (Object Val) Stop → Type 0
@@ -43,8 +42,7 @@ AddsKeyed p key t made v result = (inputs : Run Value) (level : ℕ) (later : Me
 
 -- A text that is the only output of a run, or a run without output.
 abbrev pub TextAnswers : Result SharedText Stop → Run (List ℕ) → Type 0
-TextAnswers (Ok t) r = r ≡ one (text_in t)
-TextAnswers (Err s) r = Ends s r
+TextAnswers a r = Comes (λ t. one (text_in t)) a r
 
 abbrev pub RunsPieces : Context → (format : Name) → Pieces → Value → Result SharedText Stop → Type 0
 RunsPieces p format ps v result =

@@ -1,5 +1,5 @@
 -- The outputs of the parts of a filter that has at most one output.
-use Rattle.std.specs.Prelude.{◌≡◌, ℕ, Bool, true, false, List, map, Result, Ok, Err}
+use Rattle.std.specs.Prelude.{◌≡◌, ℕ, Bool, true, false, List, map, Result}
 use Rattle.jq_natives.specs.declared.native.Native.{Native}
 use Rattle.jv_data.specs.Value.{Value}
 use Rattle.jv_data.specs.View.{view}
@@ -13,7 +13,7 @@ use Rattle.jq_meaning.specs.Env.{find_inputs}
 use Rattle.jq_meaning.specs.Meaning.{arguments_with, below, meaning}
 use Rattle.jq_meaning.specs.Runs.{Item, plain, Run, one, bind}
 use Rattle.jq_operations.specs.Language.{meaning_of}
-use Rattle.jq_single.specs.Single.{Changed, Ends}
+use Rattle.jq_single.specs.Single.{Changed, Comes}
 use Rattle.jq_single.specs.private.Scopes.{body_env, scope_env}
 use Rattle.jq_single.specs.declared.finding.Found.{Found}
 use Rattle.jq_single.specs.declared.finding.Found.TheVariants as found
@@ -24,8 +24,7 @@ use Rattle.jq_single.specs.declared.stops.Stop.TheVariants as stop
 
 -- A run with one output, or without output.
 abbrev pub Answers : Result Val Stop → Run Item → Type 0
-Answers (Ok v) r = r ≡ one (plain (view v))
-Answers (Err s) r = Ends s r
+Answers a r = Comes (λ v. one (plain (view v))) a r
 
 -- The run of a tree in a context, for a label level.
 abbrev pub run : Context → Run Value → (level : ℕ) → Tree → Item → Run Item

@@ -38,7 +38,7 @@ use Rattle.jq_meaning.specs.laws.Updating.{turn_of, turns}
 use Rattle.jq_single.specs.private.Parts.{Answers, Calls, ChangesTo, builtin_in, on_decided, run}
 use Rattle.jq_single.specs.Single.{Changed, Ends}
 use Rattle.jq_single.specs.private.FirstOutputs.{first_alone}
-use Rattle.jq_single.proofs.Binding.{adds-bind, adds-stops, bind-known, ends-bind, fails, ends-after, answers-bind, changed-bind, changed-stops, goes-changed, keeps-stops, leaves_same, stops, untold, decided_by, decided_else, truth_of, caught, with_variable, text-bind, text-stops, gathers-none, gathers-then, gathers-fail, gathers_all, gives_first, stops_first, stops-then, gathered_list, ends_gathered, bound_rest, picks_holds, picks_fails, fold_value, turned, fold_ends, single_fold}
+use Rattle.jq_single.proofs.Binding.{bind-known, comes-bind, ends-bind, fails, ends-after, keeps-stops, leaves_same, stops, untold, decided_by, decided_else, truth_of, caught, with_variable, gathers-none, gathers-then, gathers-fail, gathers_all, gives_first, stops_first, stops-then, gathered_list, ends_gathered, bound_rest, picks_holds, picks_fails, fold_value, turned, fold_ends, single_fold}
 use Rattle.jq_single.specs.declared.rests.Rest.{Rest}
 use Rattle.jq_single.specs.declared.rests.Rest.TheVariants as rest
 use Rattle.jq_single.proofs.UpdateTurns.{changed-first, first-then, changed-prop, getpath_keys, known_paths, listed_more, modify_tree, turn_lists, turn_raises, turn_sets, two_calls_deep}
@@ -79,19 +79,17 @@ get_changed-returns-in-Err t c = λ inputs level.
 -- ---- parts
 
 pub field-returns-in_err-found : goal.field-returns-in_err-found
-field-returns-in_err-found t c = λ inputs level.
-    fails c.from_residual.result c.in_err-found.field-0.0 c.args.self.now (named c.args.target.now) (view c.args.value.now) (on_target c.args.guarded (view c.args.key.now)) inputs level c.from_residual.ensures.1 c.in_err-found.ensures
+field-returns-in_err-found t c = λ inputs level. fails c.from_residual.result c.in_err-found.field-0.0 c.args.self.now (named c.args.target.now) (view c.args.value.now) (on_target c.args.guarded (view c.args.key.now)) inputs level c.from_residual.ensures.1 c.in_err-found.ensures
 
 pub index-returns : goal.index-returns
 unfolding on_key
 index-returns t c = λ inputs level.
     let v = plain (view c.args.value.now) in
     let go : Tree → Item → Run Item = run c.args.self.now inputs level in
-    answers-bind c.field.result (go (named c.args.key.now) v) (plain (view c.in_ok-at.at)) (on_key c.args.guarded (go (named c.args.target.now) v)) (c.in_ok-at.ensures inputs level) (c.field.ensures inputs level)
+    comes-bind c.field.result (go (named c.args.key.now) v) (plain (view c.in_ok-at.at)) (on_key c.args.guarded (go (named c.args.target.now) v)) (c.in_ok-at.ensures inputs level) (c.field.ensures inputs level)
 
 pub index-returns-in_err-at : goal.index-returns-in_err-at
-index-returns-in_err-at t c = λ inputs level.
-    fails c.from_residual.result c.in_err-at.field-0.0 c.args.self.now (named c.args.key.now) (view c.args.value.now) (on_key c.args.guarded (run c.args.self.now inputs level (named c.args.target.now) (plain (view c.args.value.now)))) inputs level c.from_residual.ensures.1 c.in_err-at.ensures
+index-returns-in_err-at t c = λ inputs level. fails c.from_residual.result c.in_err-at.field-0.0 c.args.self.now (named c.args.key.now) (view c.args.value.now) (on_key c.args.guarded (run c.args.self.now inputs level (named c.args.target.now) (plain (view c.args.value.now)))) inputs level c.from_residual.ensures.1 c.in_err-at.ensures
 
 pub slice-returns : goal.slice-returns
 unfolding on_start on_end
@@ -100,13 +98,12 @@ slice-returns t c = λ inputs level.
     let go : Tree → Run Item = λ u. run c.args.self.now inputs level u v in
     let ends = go (named c.args.to.now) in
     let targets = go (named c.args.target.now) in
-    answers-bind c.field.result (go (named c.args.from.now)) (plain (view c.in_ok-start.start)) (on_start c.args.guarded ends targets) (c.in_ok-start.ensures inputs level)
-    (answers-bind c.field.result ends (plain (view c.in_ok-end.end)) (on_end c.args.guarded targets (view c.in_ok-start.start)) (c.in_ok-end.ensures inputs level)
+    comes-bind c.field.result (go (named c.args.from.now)) (plain (view c.in_ok-start.start)) (on_start c.args.guarded ends targets) (c.in_ok-start.ensures inputs level)
+    (comes-bind c.field.result ends (plain (view c.in_ok-end.end)) (on_end c.args.guarded targets (view c.in_ok-start.start)) (c.in_ok-end.ensures inputs level)
     (subst (λ (k : Value). Answers c.field.result (bind targets (on_target c.args.guarded k))) c.in_ok-bounds.ensures (c.field.ensures inputs level)))
 
 pub slice-returns-in_err-start : goal.slice-returns-in_err-start
-slice-returns-in_err-start t c = λ inputs level.
-    fails c.from_residual.result c.in_err-start.field-0.0 c.args.self.now (named c.args.from.now) (view c.args.value.now) (on_start c.args.guarded (run c.args.self.now inputs level (named c.args.to.now) (plain (view c.args.value.now))) (run c.args.self.now inputs level (named c.args.target.now) (plain (view c.args.value.now)))) inputs level c.from_residual.ensures.1 c.in_err-start.ensures
+slice-returns-in_err-start t c = λ inputs level. fails c.from_residual.result c.in_err-start.field-0.0 c.args.self.now (named c.args.from.now) (view c.args.value.now) (on_start c.args.guarded (run c.args.self.now inputs level (named c.args.to.now) (plain (view c.args.value.now))) (run c.args.self.now inputs level (named c.args.target.now) (plain (view c.args.value.now)))) inputs level c.from_residual.ensures.1 c.in_err-start.ensures
 
 pub slice-returns-in_err-end : goal.slice-returns-in_err-end
 unfolding on_start
@@ -123,18 +120,16 @@ slice-returns-in_err-end t c = λ inputs level.
 -- ---- values of parts
 
 pub pipe-returns-in_err-between : goal.pipe-returns-in_err-between
-pipe-returns-in_err-between t c = λ inputs level.
-    fails c.from_residual.result c.in_err-between.field-0.0 c.args.self.now (named c.args.first.now) (view c.args.value.now) (run c.args.self.now inputs level (named c.args.second.now)) inputs level c.from_residual.ensures.1 c.in_err-between.ensures
+pipe-returns-in_err-between t c = λ inputs level. fails c.from_residual.result c.in_err-between.field-0.0 c.args.self.now (named c.args.first.now) (view c.args.value.now) (run c.args.self.now inputs level (named c.args.second.now)) inputs level c.from_residual.ensures.1 c.in_err-between.ensures
 
 pub negation-returns : goal.negation-returns
 unfolding negated
 negation-returns t c = λ inputs level.
     let w = view c.in_ok-found.found in
-    answers-bind c.answer.result (run c.args.self.now inputs level (named c.args.operand.now) (plain (view c.args.value.now))) (plain w) negated (c.in_ok-found.ensures inputs level) (c.answer.ensures (neg_of w) c.neg.ensures)
+    comes-bind c.answer.result (run c.args.self.now inputs level (named c.args.operand.now) (plain (view c.args.value.now))) (plain w) negated (c.in_ok-found.ensures inputs level) (c.answer.ensures (neg_of w) c.neg.ensures)
 
 pub negation-returns-in_err-found : goal.negation-returns-in_err-found
-negation-returns-in_err-found t c = λ inputs level.
-    fails c.from_residual.result c.in_err-found.field-0.0 c.args.self.now (named c.args.operand.now) (view c.args.value.now) negated inputs level c.from_residual.ensures.1 c.in_err-found.ensures
+negation-returns-in_err-found t c = λ inputs level. fails c.from_residual.result c.in_err-found.field-0.0 c.args.self.now (named c.args.operand.now) (view c.args.value.now) negated inputs level c.from_residual.ensures.1 c.in_err-found.ensures
 
 -- ---- conditions
 
@@ -153,8 +148,7 @@ decided-returns t c = λ inputs level.
     ∙ truth_of (go (named c.args.right.now) v) (view c.in_ok-second.second) c.truth-2.result (c.in_ok-second.ensures inputs level) c.truth-2.ensures ∙ ap (λ (w : Value). one (plain w)) (sym (view-Bool c.truth-2.result))
 
 pub decided-returns-in_err-first : goal.decided-returns-in_err-first
-decided-returns-in_err-first t c = λ inputs level.
-    fails c.from_residual.result c.in_err-first.field-0.0 c.args.self.now (named c.args.left.now) (view c.args.value.now) (on_decided c.args.by (run c.args.self.now inputs level (named c.args.right.now)) (plain (view c.args.value.now))) inputs level c.from_residual.ensures.1 c.in_err-first.ensures
+decided-returns-in_err-first t c = λ inputs level. fails c.from_residual.result c.in_err-first.field-0.0 c.args.self.now (named c.args.left.now) (view c.args.value.now) (on_decided c.args.by (run c.args.self.now inputs level (named c.args.right.now)) (plain (view c.args.value.now))) inputs level c.from_residual.ensures.1 c.in_err-first.ensures
 
 pub decided-returns-in_err-second : goal.decided-returns-in_err-second
 decided-returns-in_err-second t c = λ inputs level.
@@ -273,8 +267,8 @@ change_binary-returns-in-Ok-clause-runs t c = λ inputs level.
     let go : Tree → Item → Run Item = run c.args.self.now inputs level in
     let op = operator_of c.args.operator in
     let w = view c.operate_in_place.new.left in
-    changed-bind c.operate_in_place.result w (go (named c.args.right.now) v) (plain (view c.in_ok-second.second)) (on_right op (go (named c.args.left.now) v)) (c.in_ok-second.ensures inputs level)
-    (changed-bind c.operate_in_place.result w (go (named c.args.left.now) v) (plain (view c.change.new.value)) (on_left op (view c.in_ok-second.second)) (c.in-Ok.ensures.runs inputs level) c.operate_in_place.ensures.runs)
+    comes-bind c.operate_in_place.result (go (named c.args.right.now) v) (plain (view c.in_ok-second.second)) (on_right op (go (named c.args.left.now) v)) (c.in_ok-second.ensures inputs level)
+    (comes-bind c.operate_in_place.result (go (named c.args.left.now) v) (plain (view c.change.new.value)) (on_left op (view c.in_ok-second.second)) (c.in-Ok.ensures.runs inputs level) c.operate_in_place.ensures.runs)
 
 pub change_binary-returns-in-Ok-clause-keeps : goal.change_binary-returns-in-Ok-clause-keeps
 change_binary-returns-in-Ok-clause-keeps t c = c.operate_in_place.ensures.keeps (view c.args.value.now)
@@ -289,10 +283,7 @@ change_binary-returns-clause-runs t c = λ inputs level.
     (ends-bind c.in-Err.stop (go (named c.args.left.now) v) (on_left op (view c.in_ok-second.second)) (c.in-Err.ensures.runs inputs level))
 
 pub change_binary-returns-in_err-second-clause-runs : goal.change_binary-returns-in_err-second-clause-runs
-change_binary-returns-in_err-second-clause-runs t c = λ inputs level.
-    let v = plain (view c.args.value.now) in
-    let go : Tree → Item → Run Item = run c.args.self.now inputs level in
-    changed-stops c.from_residual.result c.in_err-second.field-0.0 _ _ c.from_residual.ensures.1 (ends-bind c.in_err-second.field-0.0 (go (named c.args.right.now) v) (on_right (operator_of c.args.operator) (go (named c.args.left.now) v)) (c.in_err-second.ensures inputs level))
+change_binary-returns-in_err-second-clause-runs t c = λ inputs level. fails c.from_residual.result c.in_err-second.field-0.0 c.args.self.now (named c.args.right.now) (view c.args.value.now) (on_right (operator_of c.args.operator) (run c.args.self.now inputs level (named c.args.left.now) (plain (view c.args.value.now)))) inputs level c.from_residual.ensures.1 c.in_err-second.ensures
 
 pub change_binary-returns-in_err-second-clause-keeps : goal.change_binary-returns-in_err-second-clause-keeps
 change_binary-returns-in_err-second-clause-keeps t c = keeps-stops c.from_residual.result c.in_err-second.field-0.0 (view c.args.value.now) c.from_residual.ensures.1
@@ -314,10 +305,7 @@ change_choice-returns-clause-runs t c = λ inputs level.
     (c.change-else-truth.ensures.runs inputs level)
 
 pub change_choice-returns-in_err-test-clause-runs : goal.change_choice-returns-in_err-test-clause-runs
-change_choice-returns-in_err-test-clause-runs t c = λ inputs level.
-    let v = plain (view c.args.value.now) in
-    let go : Tree → Item → Run Item = run c.args.self.now inputs level in
-    changed-stops c.from_residual.result c.in_err-test.field-0.0 _ _ c.from_residual.ensures.1 (ends-bind c.in_err-test.field-0.0 (go (named c.args.condition.now) v) (on_test (go (named c.args.holds.now)) (go (named c.args.fails.now)) v) (c.in_err-test.ensures inputs level))
+change_choice-returns-in_err-test-clause-runs t c = λ inputs level. fails c.from_residual.result c.in_err-test.field-0.0 c.args.self.now (named c.args.condition.now) (view c.args.value.now) (on_test (run c.args.self.now inputs level (named c.args.holds.now)) (run c.args.self.now inputs level (named c.args.fails.now)) (plain (view c.args.value.now))) inputs level c.from_residual.ensures.1 c.in_err-test.ensures
 
 pub change_choice-returns-in_err-test-clause-keeps : goal.change_choice-returns-in_err-test-clause-keeps
 change_choice-returns-in_err-test-clause-keeps t c = keeps-stops c.from_residual.result c.in_err-test.field-0.0 (view c.args.value.now) c.from_residual.ensures.1
@@ -675,8 +663,8 @@ first_piece-returns t c = λ inputs level.
     let back = text_in c.in_ok-back.back in
     let expected = format_of f (view c.in_ok-found.found) in
     let made = c.in_ok-text_in_format.field-0 in
-    text-bind c.inserted.result later back (on_back f front filter) (c.in_ok-back.ensures inputs level)
-    (text-bind c.inserted.result filter (plain (view c.in_ok-found.found)) (on_inserted f front back) (c.in_ok-found.ensures inputs level)
+    comes-bind c.inserted.result later back (on_back f front filter) (c.in_ok-back.ensures inputs level)
+    (comes-bind c.inserted.result filter (plain (view c.in_ok-found.found)) (on_inserted f front back) (c.in_ok-found.ensures inputs level)
     (c.inserted.ensures front back expected (subst (λ (bs : List ℕ). Inserts (chars bs) expected back made) c.as_str-front.ensures.value (subst (λ (bs : List ℕ). Inserts (chars c.as_str-front.result.now) expected (chars bs) made) c.as_str.ensures c.in_ok-text_in_format.ensures))))
 
 pub first_piece-returns-in_err-back : goal.first_piece-returns-in_err-back
@@ -688,7 +676,7 @@ first_piece-returns-in_err-back t c = λ inputs level.
     let later = pieces_with (below p.depth) (named_pieces c.args.later.now c.args.last.now) f (scope_env inputs p.scope.now) level x in
     let filter = run p inputs level (named piece.tree) x in
     let front = text_of piece.before in
-    text-stops c.from_residual.result c.in_err-back.field-0.0 _ c.from_residual.ensures.1
+    stops c.from_residual.result c.in_err-back.field-0.0 _ c.from_residual.ensures.1
     (ends-bind c.in_err-back.field-0.0 later (on_back f front filter) (c.in_err-back.ensures inputs level))
 
 pub first_piece-returns-in_err-found : goal.first_piece-returns-in_err-found
@@ -703,7 +691,7 @@ first_piece-returns-in_err-found t c = λ inputs level.
     let front = text_of piece.before in
     let s = c.in_err-found.field-0.0 in
     let back = text_in c.in_ok-back.back in
-    text-stops c.from_residual-in_err-found.result s _ c.from_residual-in_err-found.ensures.1
+    stops c.from_residual-in_err-found.result s _ c.from_residual-in_err-found.ensures.1
     (ends-after s later back (on_back f front filter) (c.in_ok-back.ensures inputs level)
     (ends-bind s filter (on_inserted f front back) (c.in_err-found.ensures inputs level)))
 
@@ -726,21 +714,14 @@ computed-returns t c = λ inputs level es.
     let v = view c.args.value.now in
     let made = members_in c.args.made in
     let later : Members → Run Item = entries_in p inputs level es v in
-    adds-bind c.keyed.result later (run p inputs level (named c.args.key.now) (plain v)) (plain (view c.in_ok-found.found)) (on_entry_key (run p inputs level (named c.args.filter.now) (plain v)) later made)
+    comes-bind c.keyed.result (run p inputs level (named c.args.key.now) (plain v)) (plain (view c.in_ok-found.found)) (on_entry_key (run p inputs level (named c.args.filter.now) (plain v)) later made)
     (c.in_ok-found.ensures inputs level) (c.keyed.ensures inputs level later)
 
 pub keyed-returns : goal.keyed-returns
 keyed-returns t c = λ inputs level later. rw c.into_text.ensures (c.member.ensures inputs level later)
 
 pub computed-returns-in_err-found : goal.computed-returns-in_err-found
-computed-returns-in_err-found t c = λ inputs level es.
-    let p = c.args.self.now in
-    let v = view c.args.value.now in
-    let made = members_in c.args.made in
-    let later : Members → Run Item = entries_in p inputs level es v in
-    let key = run p inputs level (named c.args.key.now) (plain v) in
-    let on_key : Item → Run Item = on_entry_key (run p inputs level (named c.args.filter.now) (plain v)) later made in
-    adds-stops c.from_residual.result c.in_err-found.field-0.0 later (bind key on_key) c.from_residual.ensures.1 (ends-bind c.in_err-found.field-0.0 key on_key (c.in_err-found.ensures inputs level))
+computed-returns-in_err-found t c = λ inputs level es. fails c.from_residual.result c.in_err-found.field-0.0 c.args.self.now (named c.args.key.now) (view c.args.value.now) (on_entry_key (run c.args.self.now inputs level (named c.args.filter.now) (plain (view c.args.value.now))) (entries_in c.args.self.now inputs level es (view c.args.value.now)) (members_in c.args.made)) inputs level c.from_residual.ensures.1 c.in_err-found.ensures
 
 pub member-returns : goal.member-returns
 unfolding on_entry
@@ -749,10 +730,7 @@ member-returns t c = λ inputs level later.
     ∙ ap later (sym c.in_ok-with_member.ensures)
 
 pub member-returns-in_err-found : goal.member-returns-in_err-found
-member-returns-in_err-found t c = λ inputs level later.
-    let r = run c.args.self.now inputs level (named c.args.filter.now) (plain (view c.args.value.now)) in
-    let on_value : Item → Run Item = on_entry later (members_in c.args.made) (text_in c.args.key.now) in
-    adds-stops c.from_residual.result c.in_err-found.field-0.0 later (bind r on_value) c.from_residual.ensures.1 (ends-bind c.in_err-found.field-0.0 r on_value (c.in_err-found.ensures inputs level))
+member-returns-in_err-found t c = λ inputs level later. fails c.from_residual.result c.in_err-found.field-0.0 c.args.self.now (named c.args.filter.now) (view c.args.value.now) (on_entry later (members_in c.args.made) (text_in c.args.key.now)) inputs level c.from_residual.ensures.1 c.in_err-found.ensures
 
 -- ---- folds
 
@@ -805,17 +783,17 @@ change_fold-returns-in-Some-clause-runs t c = λ is inputs level.
     let same : gathered r ≡ one (plain (array (items_of (view single ∷ [])))) =
     c.in-Ok.ensures inputs level ∙ ap (λ (xs : List Val). one (plain (array (items_of (map view xs))))) (sym c.as_slice.ensures.value ∙ c.in-Some.ensures) in
     subst (λ (s : Tree). Changed c.step.result (view c.step.new.state) (run p inputs level (reduce (named c.args.source.now) (whole n) s (named c.args.update.now)) x)) (sym is)
-    (changed-bind c.step.result (view c.step.new.state) (one x) x (reduced (on_state (meaning p.depth (named c.args.update.now)) level) sources.items sources.ending) refl
+    (comes-bind c.step.result (one x) x (reduced (on_state (meaning p.depth (named c.args.update.now)) level) sources.items sources.ending) refl
     (subst (Changed c.step.result (view c.step.new.state))
     (sym (single_fold (below p.depth) level n (scope_env inputs p.scope.now) (meaning p.depth (named c.args.update.now)) r.items r.ending (view single) x same))
-    (goes-changed c.step.result (view c.step.new.state) _ (c.step.ensures.runs inputs level one))))
+    (c.step.ensures.runs inputs level one)))
 
 pub change_from-returns-clause-runs : goal.change_from-returns-clause-runs
 change_from-returns-clause-runs t c = λ inputs level.
     let p = c.args.self.now in
     let x = plain (view c.args.value.now) in
     let sources = bind (run p inputs level (named c.args.source.now) x) (on_source (bindings_with (below p.depth) (whole (text_of c.args.name.now)) level) (scope_env inputs p.scope.now)) in
-    changed-bind c.fold.result (view c.fold.new.value) (run p inputs level (named c.args.start.now) x) (plain (view c.in_ok-state.state))
+    comes-bind c.fold.result (run p inputs level (named c.args.start.now) x) (plain (view c.in_ok-state.state))
     (reduced (on_state (meaning p.depth (named c.args.update.now)) level) sources.items sources.ending) (c.in_ok-state.ensures inputs level) (c.fold.ensures.runs inputs level)
 
 pub change_from-returns-in_err-state-clause-runs : goal.change_from-returns-in_err-state-clause-runs
@@ -823,7 +801,7 @@ change_from-returns-in_err-state-clause-runs t c = λ inputs level.
     let p = c.args.self.now in
     let x = plain (view c.args.value.now) in
     let sources = bind (run p inputs level (named c.args.source.now) x) (on_source (bindings_with (below p.depth) (whole (text_of c.args.name.now)) level) (scope_env inputs p.scope.now)) in
-    changed-stops c.from_residual.result c.in_err-state.field-0.0 _ _ c.from_residual.ensures.1
+    stops c.from_residual.result c.in_err-state.field-0.0 _ c.from_residual.ensures.1
     (ends-bind c.in_err-state.field-0.0 (run p inputs level (named c.args.start.now) x) (reduced (on_state (meaning p.depth (named c.args.update.now)) level) sources.items sources.ending) (c.in_err-state.ensures inputs level))
 
 pub change_from-returns-in_err-state-clause-keeps : goal.change_from-returns-in_err-state-clause-keeps
