@@ -28,7 +28,7 @@ abbrev pub decreases-get_changed : goal.decreases-get_changed
 decreases-get_changed l = 32 * l.self.now.fuel + 17
 
 abbrev pub decreases-field : goal.decreases-field
-decreases-field l = 32 * l.self.now.fuel + 3
+decreases-field l = 32 * l.self.now.fuel + 2
 
 abbrev pub decreases-index : goal.decreases-index
 decreases-index l = 32 * l.self.now.fuel + 3
