@@ -143,7 +143,7 @@ all_made inputs level most xs r e = ap (λ zs. made inputs level (rest.End most)
 pub gathered_list : {A : Type 0} (inputs : Run Value) (level most : ℕ) (d : A) (xs ys : List Val) (r : Run Item) → xs ≡ [] → Gathers (made inputs level (rest.End most)) (Ok d) xs ys (bind r one) → gathered r ≡ one (plain (array (items_of (map view ys))))
 gathered_list inputs level most d xs ys r e g = sym (all_made inputs level most xs r e) ∙ g none ∙ ap (λ vs. one (plain (array (items_of vs)))) (append-nil (map view ys))
 
-pub ends_gathered : (inputs : Run Value) (level most : ℕ) (s : Stop) (xs : List Val) (r : Run Item) → xs ≡ [] → ((q : Run Item) → Ends s (made inputs level (rest.End most) xs (then_run (bind r one) q))) → Ends s (gathered r)
+ends_gathered : (inputs : Run Value) (level most : ℕ) (s : Stop) (xs : List Val) (r : Run Item) → xs ≡ [] → ((q : Run Item) → Ends s (made inputs level (rest.End most) xs (then_run (bind r one) q))) → Ends s (gathered r)
 ends_gathered inputs level most s xs r e h = subst (Ends s) (all_made inputs level most xs r e) (h none)
 
 -- the values and the ending of a run whose outputs are those of an array
@@ -161,7 +161,8 @@ pub gathers_all : (p : Context) (t : Tree) (v : Value) (most : ℕ) (a : Result 
     → GathersAll p t v a ys
 gathers_all p t v most (Ok d) xs ys x h e g = λ inputs level.
     gathered_list inputs level most d xs ys (run p inputs level t (plain v)) e (subst (λ (z : Item). Gathers (made inputs level (rest.End most)) (Ok d) xs ys (bind (run p inputs level t z) one)) h (g inputs level))
-gathers_all p t v most (Err s) xs ys x h e g = tt
+gathers_all p t v most (Err s) xs ys x h e g = λ inputs level.
+    ends_gathered inputs level most s xs (run p inputs level t (plain v)) e (subst (λ (z : Item). (q : Run Item) → Ends s (made inputs level (rest.End most) xs (then_run (bind (run p inputs level t z) one) q))) h (g inputs level))
 
 -- a test picks a branch
 pub picks_holds : (l : Run Item) (w : Value) (holds fails : Item → Run Item) (x : Item) → l ≡ one (plain w) → is_true w ≡ true → bind l (on_test holds fails x) ≡ holds x

@@ -6,7 +6,7 @@ ghost use Rattle.jq_ast.specs.Named.{named, named_as_pattern};
 ghost use Rattle.jq_tree.specs.Tree as form;
 ghost use Rattle.jq_meaning.specs.Runs.{plain};
 ghost use Rattle.jq_single.specs.Single.{Keeps};
-ghost use Rattle.jq_single.specs.private.Gathering.{FoldsAs, FoldsFrom, GathersAll, GathersTurn, Turns, state_in};
+ghost use Rattle.jq_single.specs.private.Gathering.{FoldsAs, FoldsFrom, GathersTurn, Turns, state_in};
 ghost use Rattle.jq_single.specs.private.Parts.{ChangesTo};
 
 use crate::contexts::Context;
@@ -46,7 +46,8 @@ impl<'s> Context<'s> {
     }
 
     // The fold of the input. With one output of the source the input is changed in place; with more a copy of it is, since a
-    // later step may be one that is not run at once.
+    // later step may be one that is not run at once. A source that is run only to find this out has half of the fuel, so that
+    // folds in the sources of folds are not run more often at each level.
     #[cycle(single)]
     #[inline(never)]
     fn change_fold(
@@ -61,7 +62,11 @@ impl<'s> Context<'s> {
         ensures keeps { Keeps result (view value.old) (view value.new) }
     {
         let mut values = Vec::new(self.alloc);
-        match self.gather_source(source, value, 2, &mut values) {
+        let tried = Context {
+            fuel: self.fuel / 2,
+            ..*self
+        };
+        match tried.collect(source, value, 2, &mut values) {
             Ok(()) => match single_of(values.as_slice()) {
                 Some(single) => self.step(name, update, single, value),
                 None => self.change_from(source, name, start, update, value),
@@ -97,33 +102,14 @@ impl<'s> Context<'s> {
     #[inline(never)]
     fn may_copy(&self, source: &'s Tree, value: &Val) -> bool {
         let mut values = Vec::new(self.alloc);
-        match self.gather_source(source, value, MOST, &mut values) {
-            Ok(()) => pays_for_copy(value, values.as_slice()),
-            Err(_stop) => values.len() >= MOST,
-        }
-    }
-
-    // The outputs of a source. A source that is run only to find them out has half of the fuel, so that folds in the
-    // sources of folds are not run more often at each level.
-    #[cycle(single)]
-    #[inline(never)]
-    fn gather_source(
-        &self,
-        source: &'s Tree,
-        value: &Val,
-        most: usize,
-        into: &mut Vec<Val>,
-    ) -> Result<(), Stop>
-        requires { into.old.items ≡ [] }
-        ensures { GathersAll self.now (named source.now) (view value.now) result into.new.items }
-    {
-        let input = Item::plain(value.copy()?);
-        let end = Rest::End(most);
         let tried = Context {
             fuel: self.fuel / 2,
             ..*self
         };
-        tried.gather(&*source, &input, &end, into)
+        match tried.collect(source, value, MOST, &mut values) {
+            Ok(()) => pays_for_copy(value, values.as_slice()),
+            Err(_stop) => values.len() >= MOST,
+        }
     }
 
     // The last state, from a known state, replaces the input. The list has one value, the state, which each output of the source

@@ -5,7 +5,7 @@ ghost use Rattle.jq_tree.specs.Tree.{trees_of};
 ghost use Rattle.jq_operations.specs.Language.{meaning_of};
 ghost use Rattle.jq_state.specs.Items.{item_of};
 ghost use Rattle.jq_operations.specs.Entering.{defined};
-ghost use Rattle.jq_single.specs.private.Gathering.{GathersBelow, GathersBuiltin, GathersOf, Gathers, GathersRun, given_of, made, numbers_from, supplied};
+ghost use Rattle.jq_single.specs.private.Gathering.{GathersAll, GathersBelow, GathersBuiltin, GathersOf, Gathers, GathersRun, given_of, made, numbers_from, supplied};
 ghost use Rattle.jq_single.specs.private.Parts.{Calls};
 ghost use Rattle.jv_data.specs.Value.{Value};
 ghost use Rattle.jv_data.specs.View.{view};
@@ -91,6 +91,24 @@ impl<'s> Context<'s> {
             }
             _ => inside.gather_one(tree, item, rest, into),
         }
+    }
+
+    /// All outputs of a filter on a value, in a list that takes at most so many.
+    #[cycle(single)]
+    #[inline(never)]
+    pub(crate) fn collect(
+        &self,
+        tree: &'s Tree,
+        value: &Val,
+        most: usize,
+        into: &mut Vec<Val>,
+    ) -> Result<(), Stop>
+        requires { into.old.items ≡ [] }
+        ensures { GathersAll self.now (named tree.now) (view value.now) result into.new.items }
+    {
+        let input = Item::plain(value.copy()?);
+        let end = Rest::End(most);
+        (&*self).gather(&*tree, &input, &end, into)
     }
 
     // A filter of at most one output. On an item with a path it is not run at once.

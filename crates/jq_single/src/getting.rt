@@ -17,13 +17,11 @@ ghost use Rattle.jq_tree.specs.Tree as form;
 
 use crate::contexts::Context;
 use crate::finding::value_of;
-use crate::rests::Rest;
 use crate::stops::{Stop, answer, refused};
 use jq_ast::{Entry, Name, Piece, Tree};
 use jq_natives::truth;
 use jq_operations::entries::with_member;
 use jq_operations::{Inserted, entry_key, key_error, literal, slice_key, text_in_format};
-use jq_state::items::Item;
 use jv_arith::neg;
 use jv_data::{Array, Fail, Object, SharedText, Val};
 use jv_value::index;
@@ -185,9 +183,7 @@ impl<'s> Context<'s> {
         ensures { RunsTo self.now (form.array (named filter.now)) (view value.now) result }
     {
         let mut items = Vec::new(self.alloc);
-        let input = Item::plain(value.copy()?);
-        let end = Rest::End(usize::MAX);
-        (&*self).gather(&*filter, &input, &end, &mut items)?;
+        self.collect(filter, value, usize::MAX, &mut items)?;
         Ok(Val::List(Array::from_vec(self.alloc, items)?))
     }
 

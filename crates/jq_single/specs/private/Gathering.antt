@@ -109,8 +109,7 @@ supplied (supply.Numbers next end) = numbers_from next end
 
 -- All outputs of a tree on a value.
 abbrev pub GathersAll : {A : Type 0} → Context → Tree → Value → Result A Stop → (values : List Val) → Type 0
-GathersAll p t v (Ok done) xs = (inputs : Run Value) (level : ℕ) → gathered (run p inputs level t (plain v)) ≡ one (plain (array (items_of (map view xs))))
-GathersAll p t v (Err s) xs = Unit {0}
+GathersAll p t v a xs = (inputs : Run Value) (level : ℕ) → Comes (λ done. one (plain (array (items_of (map view xs))))) a (gathered (run p inputs level t (plain v)))
 
 -- A fold goes on with the next state, or the update stopped.
 abbrev pub GoesOn : {A : Type 0} → Result A Stop → (later : Run Item) → Run Item → Type 0

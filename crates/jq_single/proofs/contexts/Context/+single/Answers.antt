@@ -38,7 +38,7 @@ use Rattle.jq_meaning.specs.laws.Updating.{turn_of, turns}
 use Rattle.jq_single.specs.private.Parts.{Answers, Calls, ChangesTo, builtin_in, on_decided, run}
 use Rattle.jq_single.specs.Single.{Changed, Ends}
 use Rattle.jq_single.specs.private.FirstOutputs.{first_alone}
-use Rattle.jq_single.proofs.Binding.{bind-known, comes-bind, ends-bind, fails, ends-after, keeps-stops, leaves_same, stops, untold, decided_by, decided_else, truth_of, caught, with_variable, gathers-none, gathers-then, gathers-fail, gathers_all, gives_first, stops_first, stops-then, gathered_list, ends_gathered, bound_rest, picks_holds, picks_fails, fold_value, turned, fold_ends, single_fold}
+use Rattle.jq_single.proofs.Binding.{bind-known, comes-bind, ends-bind, fails, ends-after, keeps-stops, leaves_same, stops, untold, decided_by, decided_else, truth_of, caught, with_variable, gathers-none, gathers-then, gathers-fail, gathers_all, gives_first, stops_first, stops-then, gathered_list, bound_rest, picks_holds, picks_fails, fold_value, turned, fold_ends, single_fold}
 use Rattle.jq_single.specs.declared.rests.Rest.{Rest}
 use Rattle.jq_single.specs.declared.rests.Rest.TheVariants as rest
 use Rattle.jq_single.proofs.UpdateTurns.{changed-first, first-then, changed-prop, getpath_keys, known_paths, listed_more, modify_tree, turn_lists, turn_raises, turn_sets, two_calls_deep}
@@ -322,21 +322,11 @@ change_binding-returns-in_ok-found-in-Whole-clause-runs t c = λ inputs level.
 
 pub array-returns : goal.array-returns
 array-returns t c = λ inputs level.
-    let p = c.args.self.now in
-    let made = c.in_ok-from_vec.field-0 in
-    let input : item_of c.plain-input.result ≡ plain (view c.args.value.now) = c.plain-input.ensures ∙ ap plain c.in_ok-copy.ensures in
-    gathers_all p (named c.args.filter.now) (view c.args.value.now) 0 (Ok (tt {0})) c.new-items.result.items c.gather.new.into.items (item_of c.plain-input.result) input c.new-items.ensures.items c.in_ok-gather.ensures inputs level
-    ∙ ap (λ (v : Value). one (plain v)) (ap (λ (xs : List Val). array (items_of (map view xs))) (sym c.in_ok-from_vec.ensures) ∙ sym (view-List made))
+    c.in_ok-collect.ensures inputs level
+    ∙ ap (λ (v : Value). one (plain v)) (ap (λ (xs : List Val). array (items_of (map view xs))) (sym c.in_ok-from_vec.ensures) ∙ sym (view-List c.in_ok-from_vec.field-0))
 
-pub array-returns-in_err-gather : goal.array-returns-in_err-gather
-array-returns-in_err-gather t c = λ inputs level.
-    let p = c.args.self.now in
-    let s = c.in_err-gather.field-0.0 in
-    let r = run p inputs level (named c.args.filter.now) (item_of c.plain-input.result) in
-    let input : item_of c.plain-input.result ≡ plain (view c.args.value.now) = c.plain-input.ensures ∙ ap plain c.in_ok-copy.ensures in
-    stops c.from_residual-in_err-gather.result s _ c.from_residual-in_err-gather.ensures.1
-    (subst (λ (x : Item). Ends s (gathered (run p inputs level (named c.args.filter.now) x))) input
-    (ends_gathered inputs level 0 s c.new-items.result.items r c.new-items.ensures.items (c.in_err-gather.ensures inputs level)))
+pub array-returns-in_err-collect : goal.array-returns-in_err-collect
+array-returns-in_err-collect t c = λ inputs level. stops c.from_residual.result c.in_err-collect.field-0.0 _ c.from_residual.ensures.1 (c.in_err-collect.ensures inputs level)
 
 pub gather-returns-in-Call : goal.gather-returns-in-Call
 gather-returns-in-Call t c =
@@ -767,9 +757,9 @@ fold-returns-clause-runs t c = λ inputs level.
     (folded p inputs level n u held (then_run (bind (source (plain v)) one) none)) c.in_ok-keep.ensures refl))
     (subst (λ (x : Item). Ends s (folded p inputs level n u held (then_run (bind (source x) one) none))) input (c.in-Err.ensures inputs level none))
 
-pub gather_source-returns : goal.gather_source-returns
-gather_source-returns t c =
-    gathers_all c.args.self.now (named c.args.source.now) (view c.args.value.now) c.args.most c.gather.result c.args.into.now.items c.gather.new.into.items (item_of c.plain-input.result)
+pub collect-returns : goal.collect-returns
+collect-returns t c =
+    gathers_all c.args.self.now (named c.args.tree.now) (view c.args.value.now) c.args.most c.gather.result c.args.into.now.items c.gather.new.into.items (item_of c.plain-input.result)
     (c.plain-input.ensures ∙ ap plain c.in_ok-copy.ensures) c.requires c.gather.ensures
 
 pub change_fold-returns-in-Some-clause-runs : goal.change_fold-returns-in-Some-clause-runs

@@ -84,8 +84,8 @@ decreases-change_from l = 32 * l.self.now.fuel + 4
 abbrev pub decreases-may_copy : goal.decreases-may_copy
 decreases-may_copy l = 32 * l.self.now.fuel + 2
 
-abbrev pub decreases-gather_source : goal.decreases-gather_source
-decreases-gather_source l = 32 * l.self.now.fuel + 1
+abbrev pub decreases-collect : goal.decreases-collect
+decreases-collect l = 32 * l.self.now.fuel + 1
 
 abbrev pub decreases-fold : goal.decreases-fold
 decreases-fold l = 32 * l.self.now.fuel + 3
