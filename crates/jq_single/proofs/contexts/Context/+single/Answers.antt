@@ -56,11 +56,11 @@ get_made-returns-in-Text t c = λ inputs level.
 
 pub get_made-returns-in-Field : goal.get_made-returns-in-Field
 get_made-returns-in-Field t c = λ inputs level.
-    let v = plain (view c.args.value.now) in
-    let go : Tree → Run Item = λ u. run c.args.self.now inputs level u v in
+    let go : Tree → Run Item = λ u. run c.args.self.now inputs level u (plain (view c.args.value.now)) in
+    let target : c.in-Field.target.value ≡ c.deref.result.now = search rules in
     let key : view c.value.result.now ≡ string (key_of c.in-Field.key) = ap view c.value.ensures.same ∙ text_is (view c.in-Field.key.value) c.in-Field.key.text in
-    subst (λ (u : Tree). Answers c.field.result (go u)) (sym (ap named c.in-Field.is ∙ named-Field c.in-Field.target c.in-Field.key c.in-Field.guarded))
-    (subst (λ (k : Value). Answers c.field.result (bind (go (named c.in-Field.target.value)) (on_target c.in-Field.guarded k))) key (c.field.ensures inputs level))
+    subst (λ (u : Tree). Answers c.field.result (go u)) (sym (ap named c.in-Field.is ∙ named-Field c.in-Field.target c.in-Field.key c.in-Field.guarded ∙ ap (λ z. form.field (named z) (key_of c.in-Field.key) c.in-Field.guarded) target))
+    (subst (λ (k : Value). Answers c.field.result (bind (go (named c.deref.result.now)) (on_target c.in-Field.guarded k))) key (c.field.ensures inputs level))
 
 pub get_made-returns-in-Object : goal.get_made-returns-in-Object
 get_made-returns-in-Object t c = λ inputs level.
