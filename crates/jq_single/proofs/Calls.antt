@@ -13,7 +13,7 @@ use Rattle.jq_single.specs.private.Parts.{run, body_in, builtin_in, RunsTo}
 use Rattle.jq_single.specs.private.Scopes.{outside_in, scope_env}
 use Rattle.std.specs.Prelude.{bytes_eq}
 use Rattle.std.proofs.lemmas.Bool.Decides.{nat_tests}
-use Rattle.jq_meaning.specs.Env.{Env, Callee, bound, closure, find_callee, find_in_prelude, find_value, found_closure, with_arguments, found_function, no_callee, callee_or, find_inputs}
+use Rattle.jq_meaning.specs.Env.{Env, Callee, bound, closure, find_callee, find_in_prelude, found_closure, with_arguments, found_function, no_callee, callee_or, find_inputs}
 use Rattle.std.proofs.lemmas.Bool.{false≢true}
 use Rattle.jv_data.specs.Text.{text_of}
 use Rattle.jq_ast.proofs.shared.Counts.{count_trees}
@@ -65,15 +65,11 @@ pub two_chosen : (p : Context) (inputs : Run Value) (level : ℕ) (g : List Valu
 two_chosen p inputs level g ts t u v e h k =
     ap (λ us. each_choice (arguments_with (below p.depth) (trees_of (map named us)) (scope_env inputs p.scope.now) level (plain v)) g) (two_values ts t u e h k)
 
-pub value_past : (n : Name) (ps : List Name) (ts : Trees) (caller own : Env) → find_value n (with_arguments ps ts caller own) ≡ find_value n own
-value_past n [] ts caller own = refl
-value_past n (p ∷ ps) no_trees caller own = refl
-value_past n (p ∷ ps) (more_trees t ts) caller own = value_past n ps ts caller (bound (closure p t caller) own)
-
-prelude_past : (n : Name) (count : ℕ) (ps : List Name) (ts : Trees) (caller own : Env) → find_in_prelude n count (with_arguments ps ts caller own) ≡ find_in_prelude n count own
-prelude_past n count [] ts caller own = refl
-prelude_past n count (p ∷ ps) no_trees caller own = refl
-prelude_past n count (p ∷ ps) (more_trees t ts) caller own = prelude_past n count ps ts caller (bound (closure p t caller) own)
+-- what is the same past each argument is the same past all of them
+pub past : {A : Type 0} (f : Env → A) → ((p : Name) (t : Tree) (caller e : Env) → f (bound (closure p t caller) e) ≡ f e) → (ps : List Name) (ts : Trees) (caller own : Env) → f (with_arguments ps ts caller own) ≡ f own
+past f same [] ts caller own = refl
+past f same (p ∷ ps) no_trees caller own = refl
+past f same (p ∷ ps) (more_trees t ts) caller own = past f same ps ts caller (bound (closure p t caller) own) ∙ same p t caller own
 
 -- an argument has no arguments itself
 unequal : (count : ℕ) → 0 < count → nat_eq count 0 ≡ false
@@ -85,11 +81,8 @@ skipped true true x y e = absurd (cc)
 skipped false c x y e = refl
 
 pub callee_past : (n : Name) (count : ℕ) (ps : List Name) (ts : Trees) (caller own : Env) → 0 < count → find_callee n count (with_arguments ps ts caller own) ≡ find_callee n count own
-callee_past n count [] ts caller own h = refl
-callee_past n count (p ∷ ps) no_trees caller own h = refl
-callee_past n count (p ∷ ps) (more_trees t ts) caller own h =
-    callee_past n count ps ts caller (bound (closure p t caller) own) h
-    ∙ skipped (bytes_eq n p) (nat_eq count 0) (found_closure t caller) (find_callee n count own) (unequal count h)
+callee_past n count ps ts caller own h =
+    past (find_callee n count) (λ p t c e. skipped (bytes_eq n p) (nat_eq count 0) (found_closure t c) (find_callee n count e) (unequal count h)) ps ts caller own
 
 -- with the callee that is found
 finds : (p : Context) (inputs : Run Value) (level : ℕ) (n : Name) (ts : List ast.Tree) (c : Callee) (x : Item)
@@ -140,7 +133,7 @@ prelude_outside inputs n count (scope.Value' p outer name v) = prelude_outside i
 prelude_outside inputs n count (scope.Function' p outer f) = or-more (find_in_prelude n count (scope_env inputs (scope.Run (outside_in outer)))) (find_in_prelude n count (scope_env inputs outer)) _ (prelude_outside inputs n count outer)
 prelude_outside inputs n count (scope.Call' p own f ts q caller) =
     subst (λ (x : Callee). callee_or (find_in_prelude n count (scope_env inputs (scope.Run (outside_in own)))) x ≡ x)
-    (sym (prelude_past n count (map text_of f.now.parameters.items) (trees_of (map named ts.now.items)) (scope_env inputs caller) (scope_env inputs own))) (prelude_outside inputs n count own)
+    (sym (past (find_in_prelude n count) (λ p t c e. refl) (map text_of f.now.parameters.items) (trees_of (map named ts.now.items)) (scope_env inputs caller) (scope_env inputs own))) (prelude_outside inputs n count own)
 
 pub prelude_runs : (p : Context) (inputs : Run Value) (level : ℕ) (n : Name) (ts : List ast.Tree) (f : Function ast.Tree) (own : Scope) (x : Item)
     → callees.found f (scope_env inputs own) ≡ find_in_prelude n (length ts) (scope_env inputs p.scope.now)
