@@ -9,7 +9,7 @@ use Rattle.jq_meaning.specs.Builtins.{each_choice, native_run, plain_native, Bui
 use Rattle.jq_meaning.specs.Meaning.{arguments_with, below, called, meaning}
 use Rattle.jq_meaning.specs.Runs.{Run, Item, plain, value_in, bind, none, answered, one, located, paths_in}
 use Rattle.jq_single.specs.declared.contexts.Context.{Context}
-use Rattle.jq_single.specs.private.Parts.{run, body_in, builtin_in, RunsTo}
+use Rattle.jq_single.specs.private.Parts.{run, builtin_in, RunsTo}
 use Rattle.jq_single.specs.private.Scopes.{outside_in, scope_env}
 use Rattle.std.specs.Prelude.{bytes_eq}
 use Rattle.std.proofs.lemmas.Bool.Decides.{nat_tests}
@@ -85,7 +85,7 @@ callee_past n count ps ts caller own h =
     past (find_callee n count) (λ p t c e. skipped (bytes_eq n p) (nat_eq count 0) (found_closure t c) (find_callee n count e) (unequal count h)) ps ts caller own
 
 -- with the callee that is found
-finds : (p : Context) (inputs : Run Value) (level : ℕ) (n : Name) (ts : List ast.Tree) (c : Callee) (x : Item)
+pub finds : (p : Context) (inputs : Run Value) (level : ℕ) (n : Name) (ts : List ast.Tree) (c : Callee) (x : Item)
     → c ≡ find_callee n (length ts) (scope_env inputs p.scope.now)
     → run p inputs level (tree.call n (trees_of (map named ts))) x
     ≡ called (below p.depth) c (trees_of (map named ts)) (scope_env inputs p.scope.now) level x
@@ -95,16 +95,6 @@ finds p inputs level n ts c x h =
     let e = scope_env inputs p.scope.now in
     ap (λ z. called (below p.depth) z us e level x (builtin_run (builtin_named n (trees_count us)) (arguments_with (below p.depth) us e level) (find_inputs e) x))
     (ap (λ k. find_callee n k e) (count_trees ts) ∙ sym h)
-
-pub closure_runs : (p : Context) (inputs : Run Value) (level : ℕ) (n : Name) (ts : List ast.Tree) (t : Tree) (own : Scope) (x : Item)
-    → found_closure t (scope_env inputs own) ≡ find_callee n (length ts) (scope_env inputs p.scope.now)
-    → run p inputs level (tree.call n (trees_of (map named ts))) x ≡ body_in own p.depth inputs level t x
-closure_runs p inputs level n ts t own x h = finds p inputs level n ts (found_closure t (scope_env inputs own)) x h
-
-pub function_runs : (p : Context) (inputs : Run Value) (level : ℕ) (n : Name) (ts : List ast.Tree) (f : Function ast.Tree) (own : Scope) (x : Item)
-    → callees.found f (scope_env inputs own) ≡ find_callee n (length ts) (scope_env inputs p.scope.now)
-    → run p inputs level (tree.call n (trees_of (map named ts))) x ≡ below p.depth (named f.body) (with_arguments (map text_of f.parameters.items) (trees_of (map named ts)) (scope_env inputs p.scope.now) (scope_env inputs own)) level x
-function_runs p inputs level n ts f own x h = finds p inputs level n ts (callees.found f (scope_env inputs own)) x h
 
 pub builtin_runs : (p : Context) (inputs : Run Value) (level : ℕ) (n : Name) (ts : List ast.Tree) (b : Builtin) (x : Item)
     → no_callee ≡ find_callee n (length ts) (scope_env inputs p.scope.now) → b ≡ builtin_named n (length ts)

@@ -2,22 +2,23 @@ use Rattle.std.proofs.Common.{◌∙◌, ◌≡◌, length, ap}
 use Rattle.std.specs.Str.{chars}
 use Rattle.jq_ast.specs.Named.{name_of, named}
 use Rattle.jq_meaning.specs.Builtins.{builtin_named}
-use Rattle.jq_meaning.specs.Env.{find_callee}
+use Rattle.jq_meaning.specs.Env.{find_callee, found_closure}
+use Rattle.jq_operations.specs.Callees.{found}
 use Rattle.jq_operations.specs.Language.{meaning_of}
 use Rattle.jq_single.specs.private.Scopes.{scope_env}
-use Rattle.jq_single.proofs.Calls.{builtin_runs, closure_runs, function_runs}
+use Rattle.jq_single.proofs.Calls.{builtin_runs, finds}
 use Rattle.jq_single.proofs.contexts.Context.called.Goals as goal
 
 pub returns-in-Function : goal.returns-in-Function
 returns-in-Function c = λ inputs level x.
     let n = name_of c.args.name.now in
-    function_runs c.args.self.now inputs level n c.args.arguments.now.items c.in-Function.function.now c.in-Function.own x
+    finds c.args.self.now inputs level n c.args.arguments.now.items (found c.in-Function.function.now (scope_env inputs c.in-Function.own)) x
     (c.in-Function.ensures inputs ∙ ap (λ k. find_callee n k (scope_env inputs c.args.self.now.scope.now)) (c.len-count.ensures ∙ c.args.arguments.now.ok.0))
 
 pub returns-in-Closure : goal.returns-in-Closure
 returns-in-Closure c = λ inputs level x.
     let n = name_of c.args.name.now in
-    closure_runs c.args.self.now inputs level n c.args.arguments.now.items (named c.in-Closure.body.now) c.in-Closure.own x
+    finds c.args.self.now inputs level n c.args.arguments.now.items (found_closure (named c.in-Closure.body.now) (scope_env inputs c.in-Closure.own)) x
     (c.in-Closure.ensures inputs ∙ ap (λ k. find_callee n k (scope_env inputs c.args.self.now.scope.now)) (c.len-count.ensures ∙ c.args.arguments.now.ok.0))
 
 pub returns-in-Nothing : goal.returns-in-Nothing
