@@ -101,6 +101,7 @@ abbrev pub numbers_from : Option ℤ → (end : ℤ) → Run Item
 numbers_from None end = none
 numbers_from (Some n) end = numbers_up_to n end (pos 1)
 
+-- the items of a supply
 abbrev pub supplied : Supply → Run Item
 supplied (supply.Items xs) = given_of xs.items
 supplied (supply.Numbers next end) = numbers_from next end
