@@ -524,11 +524,8 @@ impl<'s> Context<'s> {
         ensures { GathersBuiltin self.now meaning.range (trees_of (map named arguments.now)) (plain (view value.now)) rest.now result into.old.items into.new.items }
     {
         match arguments {
-            [start, end] => match self.get(start, value) {
-                Ok(first) => match self.get(end, value) {
-                    Ok(last) => self.give_range(&first, &last, rest, into),
-                    Err(stop) => ended(stop),
-                },
+            [start, end] => match self.get_two(start, end, value) {
+                Ok((first, last)) => self.give_range(&first, &last, rest, into),
                 Err(stop) => ended(stop),
             },
             _ => Err(Stop::Unknown),

@@ -2,7 +2,7 @@
 ghost use Rattle.std.specs.Prelude.{◌≡◌, IfErr, IfNone, IfOk, IfSome, ℕ, List, []};
 ghost use Rattle.jv_data.specs.View.{view};
 ghost use Rattle.jq_ast.specs.Named.{named, name_of, named_entry};
-ghost use Rattle.jq_single.specs.private.Parts.{RunsTo, Answers, Decides, Follows, IsUntold};
+ghost use Rattle.jq_single.specs.private.Parts.{RunsTo, Answers, Decides, Follows, GetsTwo, IsUntold};
 ghost use Rattle.jq_meaning.specs.Continuations.{on_target, format_of, put_between, text_item};
 ghost use Rattle.jq_meaning.specs.Runs.{plain, Run, Item, alternative, one, bind};
 ghost use Rattle.jv_data.specs.Shared.{text_in};
@@ -64,6 +64,21 @@ impl<'s> Context<'s> {
             Tree::Literal(constant) => Ok(literal(constant)?),
             _ => self.get(tree, value),
         }
+    }
+
+    /// The outputs of two filters, where the second is run after the first.
+    #[cycle(single)]
+    pub(crate) fn get_two(
+        &self,
+        first: &'s Tree,
+        second: &'s Tree,
+        value: &Val,
+    ) -> Result<(Val, Val), Stop>
+        ensures { GetsTwo self.now (named first.now) (named second.now) (view value.now) result }
+    {
+        let one = self.get(first, value)?;
+        let other = self.get(second, value)?;
+        Ok((one, other))
     }
 
     /// The output of a filter that makes a value from those of its parts.
@@ -150,8 +165,7 @@ impl<'s> Context<'s> {
     ) -> Result<Val, Stop>
         ensures { RunsTo self.now (form.slice (named target.now) (named from.now) (named to.now) guarded) (view value.now) result }
     {
-        let start = self.get(from, value)?;
-        let end = self.get(to, value)?;
+        let (start, end) = self.get_two(from, to, value)?;
         let bounds = slice_key(self.alloc, start, end)?;
         self.field(target, &bounds, guarded, value)
     }

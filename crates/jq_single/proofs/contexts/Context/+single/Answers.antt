@@ -78,6 +78,25 @@ get_changed-returns-in-Err t c = λ inputs level.
 
 -- ---- parts
 
+pub get_two-returns : goal.get_two-returns
+get_two-returns t c = λ inputs level g.
+    let go : Tree → Item → Run Item = run c.args.self.now inputs level in
+    let v = plain (view c.args.value.now) in
+    bind-known (go (named c.args.first.now) v) (plain (view c.in_ok-one.one)) (λ x. bind (go (named c.args.second.now) v) (g x)) (c.in_ok-one.ensures inputs level)
+    ∙ bind-known (go (named c.args.second.now) v) (plain (view c.in_ok-other.other)) (g (plain (view c.in_ok-one.one))) (c.in_ok-other.ensures inputs level)
+
+pub get_two-returns-in_err-one : goal.get_two-returns-in_err-one
+get_two-returns-in_err-one t c = λ inputs level g. fails c.from_residual.result c.in_err-one.field-0.0 c.args.self.now (named c.args.first.now) (view c.args.value.now) (λ x. bind (run c.args.self.now inputs level (named c.args.second.now) (plain (view c.args.value.now))) (g x)) inputs level c.from_residual.ensures.1 c.in_err-one.ensures
+
+pub get_two-returns-in_err-other : goal.get_two-returns-in_err-other
+get_two-returns-in_err-other t c = λ inputs level g.
+    let go : Tree → Item → Run Item = run c.args.self.now inputs level in
+    let v = plain (view c.args.value.now) in
+    let s = c.in_err-other.field-0.0 in
+    stops c.from_residual-in_err-other.result s _ c.from_residual-in_err-other.ensures.1
+    (ends-after s (go (named c.args.first.now) v) (plain (view c.in_ok-one.one)) (λ x. bind (go (named c.args.second.now) v) (g x)) (c.in_ok-one.ensures inputs level)
+    (ends-bind s (go (named c.args.second.now) v) (g (plain (view c.in_ok-one.one))) (c.in_err-other.ensures inputs level)))
+
 pub field-returns-in_err-found : goal.field-returns-in_err-found
 field-returns-in_err-found t c = λ inputs level. fails c.from_residual.result c.in_err-found.field-0.0 c.args.self.now (named c.args.target.now) (view c.args.value.now) (on_target c.args.guarded (view c.args.key.now)) inputs level c.from_residual.ensures.1 c.in_err-found.ensures
 
@@ -94,28 +113,15 @@ index-returns-in_err-at t c = λ inputs level. fails c.from_residual.result c.in
 pub slice-returns : goal.slice-returns
 unfolding on_start on_end
 slice-returns t c = λ inputs level.
-    let v = plain (view c.args.value.now) in
-    let go : Tree → Run Item = λ u. run c.args.self.now inputs level u v in
-    let ends = go (named c.args.to.now) in
-    let targets = go (named c.args.target.now) in
-    comes-bind c.field.result (go (named c.args.from.now)) (plain (view c.in_ok-start.start)) (on_start c.args.guarded ends targets) (c.in_ok-start.ensures inputs level)
-    (comes-bind c.field.result ends (plain (view c.in_ok-end.end)) (on_end c.args.guarded targets (view c.in_ok-start.start)) (c.in_ok-end.ensures inputs level)
-    (subst (λ (k : Value). Answers c.field.result (bind targets (on_target c.args.guarded k))) c.in_ok-bounds.ensures (c.field.ensures inputs level)))
+    let targets = run c.args.self.now inputs level (named c.args.target.now) (plain (view c.args.value.now)) in
+    subst (Answers c.field.result) (sym (c.in_ok-start.ensures inputs level (λ x. on_end c.args.guarded targets (value_in x))))
+    (subst (λ (k : Value). Answers c.field.result (bind targets (on_target c.args.guarded k))) c.in_ok-bounds.ensures (c.field.ensures inputs level))
 
 pub slice-returns-in_err-start : goal.slice-returns-in_err-start
-slice-returns-in_err-start t c = λ inputs level. fails c.from_residual.result c.in_err-start.field-0.0 c.args.self.now (named c.args.from.now) (view c.args.value.now) (on_start c.args.guarded (run c.args.self.now inputs level (named c.args.to.now) (plain (view c.args.value.now))) (run c.args.self.now inputs level (named c.args.target.now) (plain (view c.args.value.now)))) inputs level c.from_residual.ensures.1 c.in_err-start.ensures
-
-pub slice-returns-in_err-end : goal.slice-returns-in_err-end
 unfolding on_start
-slice-returns-in_err-end t c = λ inputs level.
-    let v = plain (view c.args.value.now) in
-    let go : Tree → Run Item = λ u. run c.args.self.now inputs level u v in
-    let ends = go (named c.args.to.now) in
-    let targets = go (named c.args.target.now) in
-    let s = c.in_err-end.field-0.0 in
-    stops c.from_residual-in_err-end.result s _ c.from_residual-in_err-end.ensures.1
-    (ends-after s (go (named c.args.from.now)) (plain (view c.in_ok-start.start)) (on_start c.args.guarded ends targets) (c.in_ok-start.ensures inputs level)
-    (ends-bind s ends (on_end c.args.guarded targets (view c.in_ok-start.start)) (c.in_err-end.ensures inputs level)))
+slice-returns-in_err-start t c = λ inputs level.
+    let targets = run c.args.self.now inputs level (named c.args.target.now) (plain (view c.args.value.now)) in
+    stops c.from_residual.result c.in_err-start.field-0.0 _ c.from_residual.ensures.1 (c.in_err-start.ensures inputs level (λ x. on_end c.args.guarded targets (value_in x)))
 
 -- ---- values of parts
 
@@ -581,62 +587,33 @@ give-returns-in-Fold t c = λ inputs level.
     subst (λ (l : Rest). Gathers (made inputs level l) c.turn.result c.args.into.now.items c.turn.new.states.items (bind (one x) (rest_run inputs level l))) (sym c.in-Fold.is)
     (fold_value q inputs level (text_of c.in-Fold.name.now) (named c.in-Fold.update.now) c.turn.result c.args.into.now.items c.turn.new.states.items x (view c.args.item.value) (value_of_item c.args.item) (c.turn.ensures inputs level))
 
-pub gather_range-returns-in-Ok-get : goal.gather_range-returns-in-Ok-get
-gather_range-returns-in-Ok-get t c = λ inputs level.
+pub gather_range-returns-in-Ok : goal.gather_range-returns-in-Ok
+gather_range-returns-in-Ok t c = λ inputs level.
     let p = c.args.self.now in
     let ts = c.args.arguments.now in
     let v = view c.args.value.now in
-    let first = c.start-item.result in
-    let second = c.end-item.result in
     let two : length ts ≡ 2 = omega (arith, c.in-len2.len_at_least, c.in-len2.len_below) in
-    let later : Item → Run Item = rest_run inputs level c.args.rest.now in
-    let start : Run Item = run p inputs level (named first) (plain v) in
-    let end : Run Item = run p inputs level (named second) (plain v) in
-    let next : Item → Run Item = λ x. bind end (λ y. range_of (value_in x ∷ value_in y ∷ [])) in
     let r : Run Item = builtin_in p inputs level meaning.range (trees_of (map named ts)) (plain v) in
-    let same : r ≡ bind start next = two_chosen p inputs level range_of ts first second v two c.start-item.is c.end-item.is in
-    let low : Item = plain (view c.in-Ok.first) in
-    let numbers : Item → Run Item = λ y. range_of (view c.in-Ok.first ∷ value_in y ∷ []) in
-    subst (λ q. Gathers (made inputs level c.args.rest.now) c.give_range.result c.args.into.now.items c.give_range.new.into.items (bind q later))
-    (sym (same ∙ bind-known start low next (c.in-Ok.ensures inputs level) ∙ bind-known end (plain (view c.in-Ok-get.last)) numbers (c.in-Ok-get.ensures inputs level)))
-    (c.give_range.ensures inputs level)
+    let g : Item → Item → Run Item = λ x y. range_of (value_in x ∷ value_in y ∷ []) in
+    let start : Run Item = run p inputs level (named c.start-item.result) (plain v) in
+    let end : Run Item = run p inputs level (named c.end-item.result) (plain v) in
+    let same : r ≡ bind start (λ x. bind end (g x)) = two_chosen p inputs level range_of ts c.start-item.result c.end-item.result v two c.start-item.is c.end-item.is in
+    subst (λ q. Gathers (made inputs level c.args.rest.now) c.give_range.result c.args.into.now.items c.give_range.new.into.items (bind q (rest_run inputs level c.args.rest.now)))
+    (sym (same ∙ c.in-Ok.ensures inputs level g)) (c.give_range.ensures inputs level)
 
 pub gather_range-returns-in-len2 : goal.gather_range-returns-in-len2
 gather_range-returns-in-len2 t c = λ inputs level.
     let p = c.args.self.now in
     let ts = c.args.arguments.now in
     let v = view c.args.value.now in
-    let first = c.start-item.result in
-    let second = c.end-item.result in
     let two : length ts ≡ 2 = omega (arith, c.in-len2.len_at_least, c.in-len2.len_below) in
-    let later : Item → Run Item = rest_run inputs level c.args.rest.now in
-    let start : Run Item = run p inputs level (named first) (plain v) in
-    let end : Run Item = run p inputs level (named second) (plain v) in
-    let next : Item → Run Item = λ x. bind end (λ y. range_of (value_in x ∷ value_in y ∷ [])) in
     let r : Run Item = builtin_in p inputs level meaning.range (trees_of (map named ts)) (plain v) in
-    let same : r ≡ bind start next = two_chosen p inputs level range_of ts first second v two c.start-item.is c.end-item.is in
-    c.ended-in-Err.ensures inputs level c.args.rest.now (bind r later) c.args.into.now.items
-    (ends-bind c.in-Err.stop r later (subst (Ends c.in-Err.stop) (sym same) (ends-bind c.in-Err.stop start next (c.in-Err.ensures inputs level))))
-
-pub gather_range-returns-in-Ok : goal.gather_range-returns-in-Ok
-gather_range-returns-in-Ok t c = λ inputs level.
-    let p = c.args.self.now in
-    let ts = c.args.arguments.now in
-    let v = view c.args.value.now in
-    let first = c.start-item.result in
-    let second = c.end-item.result in
-    let two : length ts ≡ 2 = omega (arith, c.in-len2.len_at_least, c.in-len2.len_below) in
-    let later : Item → Run Item = rest_run inputs level c.args.rest.now in
-    let start : Run Item = run p inputs level (named first) (plain v) in
-    let end : Run Item = run p inputs level (named second) (plain v) in
-    let next : Item → Run Item = λ x. bind end (λ y. range_of (value_in x ∷ value_in y ∷ [])) in
-    let r : Run Item = builtin_in p inputs level meaning.range (trees_of (map named ts)) (plain v) in
-    let same : r ≡ bind start next = two_chosen p inputs level range_of ts first second v two c.start-item.is c.end-item.is in
-    let s = c.in-Err-get.stop in
-    let low : Item = plain (view c.in-Ok.first) in
-    let numbers : Item → Run Item = λ y. range_of (view c.in-Ok.first ∷ value_in y ∷ []) in
-    c.ended.ensures inputs level c.args.rest.now (bind r later) c.args.into.now.items
-    (ends-bind s r later (subst (Ends s) (sym same) (ends-after s start low next (c.in-Ok.ensures inputs level) (ends-bind s end numbers (c.in-Err-get.ensures inputs level)))))
+    let g : Item → Item → Run Item = λ x y. range_of (value_in x ∷ value_in y ∷ []) in
+    let start : Run Item = run p inputs level (named c.start-item.result) (plain v) in
+    let end : Run Item = run p inputs level (named c.end-item.result) (plain v) in
+    let same : r ≡ bind start (λ x. bind end (g x)) = two_chosen p inputs level range_of ts c.start-item.result c.end-item.result v two c.start-item.is c.end-item.is in
+    c.ended.ensures inputs level c.args.rest.now (bind r (rest_run inputs level c.args.rest.now)) c.args.into.now.items
+    (ends-bind c.in-Err.stop r (rest_run inputs level c.args.rest.now) (subst (Ends c.in-Err.stop) (sym same) (c.in-Err.ensures inputs level g)))
 
 -- ---- strings
 

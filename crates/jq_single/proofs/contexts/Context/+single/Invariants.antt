@@ -21,6 +21,9 @@ decreases-get l = 32 * l.self.now.fuel
 abbrev pub decreases-get_part : goal.decreases-get_part
 decreases-get_part l = 32 * l.self.now.fuel + 1
 
+abbrev pub decreases-get_two : goal.decreases-get_two
+decreases-get_two l = 32 * l.self.now.fuel + 1
+
 abbrev pub decreases-get_made : goal.decreases-get_made
 decreases-get_made l = 32 * l.self.now.fuel + 13
 
