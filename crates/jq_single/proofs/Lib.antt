@@ -1,3 +1,3 @@
-pub mod Calls
 pub mod Binding
+pub mod Calls
 pub mod UpdateTurns
