@@ -8,7 +8,7 @@ use Rattle.jq_ast.specs.declared.tree.Function.{Function}
 use Rattle.jq_ast.specs.declared.tree.Tree as ast
 use Rattle.jq_meaning.specs.Programs.{program_env, with_bindings}
 use Rattle.jq_meaning.specs.laws.Added.{functions_before}
-use Rattle.jq_meaning.specs.Env.{Env, Binding, Callee, outermost, bound, value_of, function, found_function, no_callee, callee_or, find_callee, find_in_prelude, is_named, with_variables}
+use Rattle.jq_meaning.specs.Env.{Env, Binding, Callee, outermost, bound, function, found_function, no_callee, callee_or, find_callee, find_in_prelude, is_named, with_variables}
 use Rattle.jq_meaning.specs.Runs.{Run}
 use Rattle.jq_resolver.specs.Programs.{named_program}
 use Rattle.jq_state.specs.Modify.{KnowsModify}

@@ -2,8 +2,8 @@
 use Rattle.std.specs.Prelude.{Ok, Err}
 use Rattle.jv_data.specs.View.{view}
 use Rattle.jq_natives.specs.Answers.{Answer}
-use Rattle.jq_transitions.specs.declared.receive.parts.Part.{Part}
-use Rattle.jq_transitions.specs.declared.receive.parts.Part.TheVariants as part
+use Rattle.jq_transitions.specs.declared.receiving.parts.Part.{Part}
+use Rattle.jq_transitions.specs.declared.receiving.parts.Part.TheVariants as part
 
 abbrev pub answer_of : Part → Answer
 answer_of (part.Value v) = Ok (view v)

@@ -1,4 +1,0 @@
-use Rattle.jq_transitions.proofs.evaluate.binding.enter_foreach.Goals as goal
-
-pub returns : goal.returns
-returns c = rw c.in_ok-kept.ensures at c.run_binding.ensures

@@ -1,4 +1,0 @@
-use Rattle.jq_transitions.proofs.evaluate.paths.enter_field.Goals as goal
-
-pub returns : goal.returns
-returns c = c.run_operation.ensures

@@ -1,8 +1,0 @@
-use Rattle.std.proofs.Common.{◌∙◌, sym}
-use Rattle.jq_state.proofs.shared.Items.{absent}
-use Rattle.jq_transitions.proofs.evaluate.values.enter_negation.Goals as goal
-
-pub returns : goal.returns
-returns c =
-    let alone = absent c.args.input (sym c.is_present.ensures ∙ c.if-is_present.false) in
-    rw alone (rw alone at c.run_operation.ensures)

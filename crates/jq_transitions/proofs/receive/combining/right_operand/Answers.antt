@@ -1,9 +1,0 @@
-use Rattle.std.proofs.Common.{refl}
-use Rattle.jq_state.specs.declared.next.Next.TheVariants.{Evaluate}
-use Rattle.jq_transitions.proofs.Comings.{came}
-use Rattle.jq_transitions.proofs.receive.combining.right_operand.Goals as goal
-
-pub returns : goal.returns
-returns c =
-    let e = c.in_ok-push.ensures in
-    came c.args.state.now c.push.new.self (Evaluate c.args.left c.args.scope c.args.input) e.envs c.requires e.frames e.forks (λ inputs. rw c.into_value.ensures refl)
