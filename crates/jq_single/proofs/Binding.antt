@@ -1,5 +1,5 @@
 -- What is claimed of a run that goes on with another filter, of outputs that are added to a list, and of the steps of a fold.
-use Rattle.std.proofs.Common.{◌≡◌, ◌∙◌, ℕ, List, Bool, true, false, Result, Ok, Err, refl, sym, ap, subst, [], ◌∷◌, ◌++◌, map, reverse, length, Option, Some, option_to_list, arith, None, IfSome}
+use Rattle.std.proofs.Common.{◌≡◌, ◌∙◌, if◌then◌else◌, ℕ, List, Bool, true, false, Result, Ok, Err, refl, sym, ap, subst, [], ◌∷◌, ◌++◌, map, reverse, length, Option, Some, option_to_list, arith, None, IfSome}
 use Rattle.std.specs.Result.{IsErrAnd}
 use Rattle.jv_data.specs.Value.{Value, boolean, array, items_of, values_of, null}
 use Rattle.jv_data.specs.declared.values.Val.{Val}
@@ -8,11 +8,11 @@ use Rattle.jq_meaning.specs.Continuations.{truth, on_conjunct, on_disjunct, on_e
 use Rattle.jq_tree.specs.Tree.{Name, Tree}
 use Rattle.jq_meaning.specs.Env.{Env, bound, value_of}
 use Rattle.jq_meaning.specs.Meaning.{Means, bindings_with, meaning}
-use Rattle.jq_meaning.specs.Runs.{Item, plain, Run, one, fail, bind, catch, value_in, Ending, Done, Raised, Broken, Stopped, none, before, then_run, bind_items, gathered, located, path_error, go_on}
+use Rattle.jq_meaning.specs.Runs.{Item, plain, alternative, Run, one, fail, bind, catch, value_in, Ending, Done, Raised, Broken, Stopped, none, before, then_run, bind_items, gathered, located, path_error, go_on}
 use Rattle.jq_meaning.proofs.shared.machine.RunLaws.{bind-one, bind-bind, bind-one_right, bind-then_run, then_run-assoc, then_run-none}
 use Rattle.jq_single.specs.Single.{Ends, Comes, Keeps, Leaves}
 use Rattle.jq_single.specs.private.Gathering.{GoesOn, Gathers, GathersAll, given_of, made, rest_run, folded, last_or, state_in, turn}
-use Rattle.jq_single.specs.private.Parts.{IsUntold, RunsTo, on_decided, run}
+use Rattle.jq_single.specs.private.Parts.{RunsTo, on_decided, run}
 use Rattle.jq_single.specs.declared.stops.Stop.{Stop}
 use Rattle.std.proofs.lemmas.List.{append-nil, map-append, reverse-append}
 use Rattle.jv_data.proofs.shared.Items.{values_of-items_of}
@@ -43,12 +43,6 @@ bind-known r x g e = ap (λ q. bind q g) e ∙ bind-one x g
 pub comes-bind : {V A B : Type 0} {to : V → Run B} (a : Result V Stop) (r : Run A) (x : A) (g : A → Run B) → r ≡ one x → Comes to a (g x) → Comes to a (bind r g)
 comes-bind (Ok v) r x g e h = bind-known r x g e ∙ h
 comes-bind (Err s) r x g e h = subst (Ends s) (sym (bind-known r x g e)) h
-
-pub untold : {A : Type 0} (s : Stop) (r : Run A) → IsUntold s → Ends s r
-untold stop.Nothing r h = absurd h
-untold (stop.Raised v) r h = absurd h
-untold stop.NoMemory r h = tt
-untold stop.Unknown r h = tt
 
 pub ends-after : {A B : Type 0} (s : Stop) (r : Run A) (x : A) (g : A → Run B) → r ≡ one x → Ends s (g x) → Ends s (bind r g)
 ends-after s r x g e = subst (Ends s) (sym (bind-known r x g e))
@@ -92,6 +86,10 @@ unfolding truth
 truth_of l w b e t = bind-known l (plain w) truth e ∙ ap (λ c. one (plain (boolean c))) (sym t)
 
 -- ---- errors
+
+pub alternative_known : (b : Bool) (r : Run Item) (g : Item → Run Item) (x : Item) (w : Value) → r ≡ one (plain w) → is_true w ≡ b → alternative r g x ≡ (if b then one (plain w) else g x)
+alternative_known true r g x w e t = ap (λ q. alternative q g x) e ∙ rw t refl
+alternative_known false r g x w e t = ap (λ q. alternative q g x) e ∙ rw t refl
 
 pub caught : (r : Run Item) (v w : Value) (handler : Item → Run Item) → r ≡ fail w → catch r (on_error handler (plain v)) ≡ handler (plain w)
 unfolding on_error

@@ -215,16 +215,24 @@ impl<'s> Context<'s> {
         Ok(Val::Bool(truth(&second)))
     }
 
-    // `f // g`.
+    // `f // g`. An error ends the left side.
     #[cycle(single)]
     #[inline(never)]
     fn alternative(&self, left: &'s Tree, right: &'s Tree, value: &Val) -> Result<Val, Stop>
         ensures { RunsTo self.now (form.alternative (named left.now) (named right.now)) (view value.now) result }
     {
-        match kept(self.get(left, value)) {
-            Ok(Some(found)) => Ok(found),
-            Ok(None) => self.get(right, value),
-            Err(stop) => Err(stop),
+        match self.get(left, value) {
+            Ok(found) => {
+                if truth(&found) {
+                    Ok(found)
+                } else {
+                    self.get(right, value)
+                }
+            }
+            Err(Stop::Nothing) => self.get(right, value),
+            Err(Stop::Raised(_error)) => self.get(right, value),
+            Err(Stop::NoMemory) => Err(Stop::NoMemory),
+            Err(Stop::Unknown) => Err(Stop::Unknown),
         }
     }
 
@@ -398,26 +406,6 @@ fn part_at(alloc: Global, guarded: bool, target: &Val, key: &Val) -> Result<Val,
         Ok(part) => Ok(part),
         Err(Fail::Raised(error)) => Err(refused(guarded, error)),
         Err(Fail::NoMemory) => Err(Stop::NoMemory),
-    }
-}
-
-// The output of the left side of `//`, if it is kept. An error ends the left side.
-fn kept(found: Result<Val, Stop>) -> Result<Option<Val>, Stop>
-    ensures some { (r : Run Item) (g : Item → Run Item) (x : Item) → Answers found r → IfOk result (λ o. IfSome o (λ v. alternative r g x ≡ one (plain (view v)))) }
-    ensures none { (r : Run Item) (g : Item → Run Item) (x : Item) → Answers found r → IfOk result (λ o. IfNone o (alternative r g x ≡ g x)) }
-    ensures stop { IfErr result IsUntold }
-{
-    match found {
-        Ok(value) => {
-            if truth(&value) {
-                return Ok(Some(value));
-            }
-            Ok(None)
-        }
-        Err(Stop::Nothing) => Ok(None),
-        Err(Stop::Raised(_error)) => Ok(None),
-        Err(Stop::NoMemory) => Err(Stop::NoMemory),
-        Err(Stop::Unknown) => Err(Stop::Unknown),
     }
 }
 

@@ -20,7 +20,6 @@ use Rattle.jq_single.specs.declared.finding.Found.TheVariants as found
 use Rattle.jq_single.specs.declared.scopes.Scope.{Scope}
 use Rattle.jq_single.specs.declared.contexts.Context.{Context}
 use Rattle.jq_single.specs.declared.stops.Stop.{Stop}
-use Rattle.jq_single.specs.declared.stops.Stop.TheVariants as stop
 
 -- A run with one output, or without output.
 abbrev pub Answers : Result Val Stop → Run Item → Type 0
@@ -62,13 +61,6 @@ on_decided false right x = on_conjunct right x
 
 abbrev pub Decides : Context → (by : Bool) → (left right : Tree) → Value → Result Val Stop → Type 0
 Decides p by t u v result = (inputs : Run Value) (level : ℕ) → Answers result (bind (run p inputs level t (plain v)) (on_decided by (run p inputs level u) (plain v)))
-
--- Nothing is claimed of a run.
-abbrev pub IsUntold : Stop → Type 0
-IsUntold stop.Nothing = ⊥
-IsUntold (stop.Raised v) = ⊥
-IsUntold stop.NoMemory = Unit {0}
-IsUntold stop.Unknown = Unit {0}
 
 -- ---- names of the language
 

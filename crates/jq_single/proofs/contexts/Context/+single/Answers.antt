@@ -38,7 +38,7 @@ use Rattle.jq_meaning.specs.laws.Updating.{turn_of, turns}
 use Rattle.jq_single.specs.private.Parts.{Answers, Calls, ChangesTo, builtin_in, on_decided, run}
 use Rattle.jq_single.specs.Single.{Changed, Ends}
 use Rattle.jq_single.specs.private.FirstOutputs.{first_alone}
-use Rattle.jq_single.proofs.Binding.{bind-known, comes-bind, ends-bind, fails, ends-after, keeps-stops, leaves_same, stops, untold, decided_by, decided_else, truth_of, caught, with_variable, gathers-none, gathers-then, gathers-fail, gathers_all, gives_first, stops_first, stops-then, gathered_list, bound_rest, picks_holds, picks_fails, fold_value, turned, fold_ends, single_fold}
+use Rattle.jq_single.proofs.Binding.{bind-known, comes-bind, ends-bind, fails, ends-after, keeps-stops, leaves_same, stops, alternative_known, decided_by, decided_else, truth_of, caught, with_variable, gathers-none, gathers-then, gathers-fail, gathers_all, gives_first, stops_first, stops-then, gathered_list, bound_rest, picks_holds, picks_fails, fold_value, turned, fold_ends, single_fold}
 use Rattle.jq_single.specs.declared.rests.Rest.{Rest}
 use Rattle.jq_single.specs.declared.rests.Rest.TheVariants as rest
 use Rattle.jq_single.proofs.UpdateTurns.{changed-first, first-then, changed-prop, getpath_keys, known_paths, listed_more, modify_tree, turn_lists, turn_raises, turn_sets, two_calls_deep}
@@ -167,23 +167,29 @@ decided-returns-in_err-second t c = λ inputs level.
 
 -- ---- `//` and `try`
 
-pub alternative-returns-in-Ok-Some : goal.alternative-returns-in-Ok-Some
-alternative-returns-in-Ok-Some t c = λ inputs level.
+pub alternative-returns-then-truth : goal.alternative-returns-then-truth
+alternative-returns-then-truth t c = λ inputs level.
     let v = plain (view c.args.value.now) in
-    (rw c.in-Ok-Some.field-0-is at c.in-Ok-Some.ensures.some) (run c.args.self.now inputs level (named c.args.left.now) v) (run c.args.self.now inputs level (named c.args.right.now)) v (c.get.ensures inputs level)
+    let go : Tree → Item → Run Item = run c.args.self.now inputs level in
+    alternative_known true (go (named c.args.left.now) v) (go (named c.args.right.now)) v (view c.in-Ok.found) (c.in-Ok.ensures inputs level) (sym c.truth.ensures ∙ c.if-truth.true)
 
-pub alternative-returns-in-Ok-None : goal.alternative-returns-in-Ok-None
-alternative-returns-in-Ok-None t c = λ inputs level.
+pub alternative-returns-in-Ok : goal.alternative-returns-in-Ok
+alternative-returns-in-Ok t c = λ inputs level.
     let v = plain (view c.args.value.now) in
+    let go : Tree → Item → Run Item = run c.args.self.now inputs level in
+    subst (Answers c.get-else-truth.result)
+    (sym (alternative_known false (go (named c.args.left.now) v) (go (named c.args.right.now)) v (view c.in-Ok.found) (c.in-Ok.ensures inputs level) (sym c.truth.ensures ∙ c.if-truth.false)))
+    (c.get-else-truth.ensures inputs level)
+
+pub alternative-returns-in-Err-Nothing : goal.alternative-returns-in-Err-Nothing
+alternative-returns-in-Err-Nothing t c = λ inputs level.
     let right = run c.args.self.now inputs level (named c.args.right.now) in
-    let left = run c.args.self.now inputs level (named c.args.left.now) v in
-    let same : alternative left right v ≡ right v = (rw c.in-Ok-None.field-0-is at c.in-Ok-None.ensures.none) left right v (c.get.ensures inputs level) in
-    subst (Answers c.get-in-Ok-None.result) (sym same) (c.get-in-Ok-None.ensures inputs level)
+    subst (Answers c.get-in-Err-Nothing.result) (sym (ap (λ (q : Run Item). alternative q right (plain (view c.args.value.now))) ((rw c.in-Err-Nothing.field-0-is at c.in-Err-Nothing.ensures) inputs level))) (c.get-in-Err-Nothing.ensures inputs level)
 
-pub alternative-returns-in-Err : goal.alternative-returns-in-Err
-alternative-returns-in-Err t c = λ inputs level.
-    let v = plain (view c.args.value.now) in
-    untold c.in-Err.stop (alternative (run c.args.self.now inputs level (named c.args.left.now) v) (run c.args.self.now inputs level (named c.args.right.now)) v) c.in-Err.ensures.stop
+pub alternative-returns-in-Err-Raised : goal.alternative-returns-in-Err-Raised
+alternative-returns-in-Err-Raised t c = λ inputs level.
+    let right = run c.args.self.now inputs level (named c.args.right.now) in
+    subst (Answers c.get-in-Err-Raised.result) (sym (ap (λ (q : Run Item). alternative q right (plain (view c.args.value.now))) ((rw c.in-Err-Raised.field-0-is at c.in-Err-Raised.ensures) inputs level))) (c.get-in-Err-Raised.ensures inputs level)
 
 pub try_catch-returns-in-Ok : goal.try_catch-returns-in-Ok
 try_catch-returns-in-Ok t c = λ inputs level.
