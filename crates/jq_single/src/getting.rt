@@ -1,10 +1,10 @@
 // The output of a filter on a value that is kept: forms that make a value from those of their parts, and copies that others change.
-ghost use Rattle.std.specs.Prelude.{◌≡◌, IfErr, IfNone, IfOk, IfSome, ℕ, List, []};
+ghost use Rattle.std.specs.Prelude.{ℕ, List, []};
 ghost use Rattle.jv_data.specs.View.{view};
 ghost use Rattle.jq_ast.specs.Named.{named, name_of, named_entry};
-ghost use Rattle.jq_single.specs.private.Parts.{RunsTo, Answers, Decides, Follows, GetsTwo, IsUntold};
+ghost use Rattle.jq_single.specs.private.Parts.{RunsTo, Answers, Decides, Follows, GetsTwo};
 ghost use Rattle.jq_meaning.specs.Continuations.{on_target, format_of, put_between, text_item};
-ghost use Rattle.jq_meaning.specs.Runs.{plain, Run, Item, alternative, one, bind};
+ghost use Rattle.jq_meaning.specs.Runs.{plain, bind};
 ghost use Rattle.jv_data.specs.Shared.{text_in};
 ghost use Rattle.jv_data.specs.Text.{text_of};
 ghost use Rattle.jv_text.specs.Formats.{Text};
