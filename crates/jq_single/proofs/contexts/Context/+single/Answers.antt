@@ -536,7 +536,7 @@ gather_builtin-returns-in-Ok t c = λ inputs level.
     let go : Item → Run Item = builtin_in c.args.self.now inputs level (meaning_of c.args.builtin) (trees_of (map named c.args.arguments.now)) in
     subst (λ r. Gathers (made inputs level c.args.rest.now) c.give.result c.args.into.now.items c.give.new.into.items (bind r (rest_run inputs level c.args.rest.now)))
     (ap one c.plain.ensures
-    ∙ sym (ap go (absent c.args.item.now (sym c.is_present.ensures ∙ c.if-is_present.false)) ∙ ap (λ (v : Value). go (plain v)) (sym c.in_ok-found.ensures) ∙ c.in-Ok.ensures.runs inputs level))
+    ∙ sym (ap go (absent c.args.item.now (sym c.is_present.ensures ∙ c.if-is_present.false)) ∙ ap (λ (v : Value). go (plain v)) (sym c.in_ok-found-in_default.ensures) ∙ c.in-Ok.ensures.runs inputs level))
     (c.give.ensures inputs level)
 
 pub gather_builtin-returns-in-Err : goal.gather_builtin-returns-in-Err
@@ -545,7 +545,7 @@ gather_builtin-returns-in-Err t c = λ inputs level.
     let x = item_of c.args.item.now in
     c.ended.ensures inputs level c.args.rest.now (bind (go x) (rest_run inputs level c.args.rest.now)) c.args.into.now.items
     (ends-bind c.in-Err.stop (go x) (rest_run inputs level c.args.rest.now)
-    (subst (λ (y : Item). Ends c.in-Err.stop (go y)) (ap plain c.in_ok-found.ensures ∙ sym (absent c.args.item.now (sym c.is_present.ensures ∙ c.if-is_present.false))) (c.in-Err.ensures.runs inputs level)))
+    (subst (λ (y : Item). Ends c.in-Err.stop (go y)) (ap plain c.in_ok-found-in_default.ensures ∙ sym (absent c.args.item.now (sym c.is_present.ensures ∙ c.if-is_present.false))) (c.in-Err.ensures.runs inputs level)))
 
 pub gather_paths-returns-in_ok-start-in-len1 : goal.gather_paths-returns-in_ok-start-in-len1
 gather_paths-returns-in_ok-start-in-len1 t c = λ inputs level.
