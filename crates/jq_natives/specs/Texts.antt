@@ -1,5 +1,5 @@
 -- Natives on strings (manual of jq 1.7, "tostring", "tonumber", "tojson, fromjson", "explode", "implode", "split/1",
--- "startswith(str)", "endswith(str)", "ltrimstr(str)", "rtrimstr(str)", "ascii_downcase, ascii_upcase").
+-- "startswith(str)", "endswith(str)", "ltrimstr(str)", "rtrimstr(str)", "trimstr(str)", "ascii_downcase, ascii_upcase").
 use Rattle.std.specs.Prelude.{ℕ, ◌+◌, ◌-◌, pos, List, [], ◌∷◌, length, take, drop, map, codes, Bool, ◌&&◌, ◌||◌, nat_eq, nat_le, nat_lt, if◌then◌else◌, Option, Some, None, option_map, Ok}
 use Rattle.std.specs.Option.{option_map_or}
 use Rattle.std.specs.List.{starts_with, ends_with}
@@ -8,6 +8,7 @@ use Rattle.jv_data.specs.Value.{Value, number, string, array, Items, no_items, i
 use Rattle.jq_natives.specs.Answers.{Answer, yes_or_no, counts}
 use Rattle.jv_arith.specs.Strings.{split_of}
 use Rattle.jv_text.specs.Printed.{json_text, text_of_value}
+use Rattle.jv_value.specs.Results.{and_then}
 use Rattle.jq_natives.specs.declared.native.Native.TheVariants as native
 use Rattle.jq_natives.specs.Entries.{NativeEntry, without_arguments, with_one}
 
@@ -61,6 +62,10 @@ abbrev pub rtrimstr_of : Value → Value → Answer
 rtrimstr_of (string s) (string part) = Ok (string (if ends_with nat_eq s part then take (length s - length part) s else s))
 rtrimstr_of v part = Ok v
 
+-- the string without that prefix, and then without that suffix; any other input is unchanged
+abbrev pub trimstr_of : Value → Value → Answer
+trimstr_of v part = and_then (ltrimstr_of v part) (λ rest. rtrimstr_of rest part)
+
 -- A to Z as a to z
 abbrev pub ascii_lower : ℕ → ℕ
 ascii_lower c = if nat_le 65 c && nat_le c 90 then c + 32 else c
@@ -89,6 +94,7 @@ text_natives =
     ∷ with_one (codes "endswith") native.EndsWith endswith_of
     ∷ with_one (codes "ltrimstr") native.TrimStart ltrimstr_of
     ∷ with_one (codes "rtrimstr") native.TrimEnd rtrimstr_of
+    ∷ with_one (codes "trimstr") native.TrimBoth trimstr_of
     ∷ without_arguments (codes "ascii_downcase") native.AsciiDowncase ascii_downcase_of
     ∷ without_arguments (codes "ascii_upcase") native.AsciiUpcase ascii_upcase_of
     ∷ []

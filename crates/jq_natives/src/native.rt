@@ -42,6 +42,8 @@ pub enum Native {
     TrimStart,
     /// `rtrimstr`.
     TrimEnd,
+    /// `trimstr`.
+    TrimBoth,
     AsciiDowncase,
     AsciiUpcase,
     /// `_sort_by`: the argument is the list of the items' keys, here and in the four that follow.
@@ -119,6 +121,7 @@ fn named_with_one(name: &str) -> Option<Native>
         "endswith" => Some(Native::EndsWith),
         "ltrimstr" => Some(Native::TrimStart),
         "rtrimstr" => Some(Native::TrimEnd),
+        "trimstr" => Some(Native::TrimBoth),
         "_sort_by" => Some(Native::SortBy),
         "_group_by" => Some(Native::GroupBy),
         "_unique_by" => Some(Native::UniqueBy),
@@ -214,6 +217,7 @@ fn with_one(alloc: Global, native: Native, value: &Val, argument: &Val) -> Resul
         Native::EndsWith => texts::endswith(alloc, value, argument),
         Native::TrimStart => Ok(texts::ltrimstr(alloc, value, argument)?),
         Native::TrimEnd => Ok(texts::rtrimstr(alloc, value, argument)?),
+        Native::TrimBoth => Ok(texts::trimstr(alloc, value, argument)?),
         Native::SortBy => sorting::sort_by(alloc, value.copy()?, argument),
         Native::GroupBy => grouping::group_by(alloc, value.copy()?, argument),
         Native::UniqueBy => grouping::unique_by(alloc, value.copy()?, argument),

@@ -4,7 +4,7 @@ ghost use Rattle.std.specs.List.{starts_with, ends_with};
 ghost use Rattle.std.specs.Str.{chars};
 ghost use Rattle.jv_data.specs.Fails.{AnswersAs};
 ghost use Rattle.jv_data.specs.View.{view};
-ghost use Rattle.jq_natives.specs.Texts.{split_native_of, startswith_of, endswith_of, ltrimstr_of, rtrimstr_of};
+ghost use Rattle.jq_natives.specs.Texts.{split_native_of, startswith_of, endswith_of, ltrimstr_of, rtrimstr_of, trimstr_of};
 ghost use Rattle.jq_natives.specs.private.Ends.{IsAfter, IsBefore};
 
 use jv_arith::split;
@@ -72,6 +72,15 @@ pub(crate) fn rtrimstr(alloc: Global, value: &Val, part: &Val) -> Result<Val, No
         },
         _ => value.copy(),
     }
+}
+
+/// `trimstr(part)`: the string without that prefix, and then without that suffix. Any other input is unchanged (manual of jq
+/// 1.7, "trimstr(str)").
+pub(crate) fn trimstr(alloc: Global, value: &Val, part: &Val) -> Result<Val, NoMemory>
+    ensures { IfOk result (λ v. trimstr_of (view value.now) (view part.now) ≡ Ok (view v)) }
+{
+    let rest = ltrimstr(alloc, value, part)?;
+    rtrimstr(alloc, &rest, part)
 }
 
 // The text after the part, if the text begins with it.

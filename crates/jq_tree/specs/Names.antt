@@ -71,7 +71,7 @@ natives = functions_of 0 (codes "length" ∷ codes "utf8bytelength" ∷ codes "k
     ∷ codes "tostring" ∷ codes "tojson" ∷ codes "tonumber" ∷ codes "fromjson" ∷ codes "explode" ∷ codes "implode"
     ∷ codes "ascii_downcase" ∷ codes "ascii_upcase" ∷ codes "reverse" ∷ codes "transpose" ∷ [])
     ++ functions_of 1 (codes "has" ∷ codes "contains" ∷ codes "split" ∷ codes "startswith" ∷ codes "endswith" ∷ codes "ltrimstr"
-    ∷ codes "rtrimstr" ∷ codes "_sort_by" ∷ codes "_group_by" ∷ codes "_unique_by" ∷ codes "_min_by" ∷ codes "_max_by"
+    ∷ codes "rtrimstr" ∷ codes "trimstr" ∷ codes "_sort_by" ∷ codes "_group_by" ∷ codes "_unique_by" ∷ codes "_min_by" ∷ codes "_max_by"
     ∷ codes "flatten" ∷ codes "indices" ∷ codes "index" ∷ codes "rindex" ∷ codes "error" ∷ codes "getpath" ∷ codes "delpaths" ∷ [])
     ++ functions_of 2 (codes "setpath" ∷ [])
 
