@@ -6,7 +6,8 @@ use Rattle.std.specs.List.{list_all}
 use Rattle.std.specs.Prelude.{◌&&◌}
 use Rattle.std.specs.Str.{IsUtf8, bytes_eq, chars}
 use Rattle.jv_data.proofs.shared.Ascii.{same_as_ascii}
-use Rattle.jq_natives.specs.Natives.{NativeEntry, native_in, native_named, table}
+use Rattle.jq_natives.specs.Entries.{NativeEntry}
+use Rattle.jq_natives.specs.Natives.{native_in, native_named, table}
 
 abbrev are_ascii : List NativeEntry → Bool
 are_ascii [] = true

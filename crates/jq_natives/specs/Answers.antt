@@ -1,20 +1,11 @@
 -- What a native answers: a value, or the error that it raises.
-use Rattle.std.specs.Prelude.{ℕ, pos, List, [], ◌++◌, length, Bool, true, false, Result, Ok, Err, codes, map}
+use Rattle.std.specs.Prelude.{ℕ, pos, List, [], length, Bool, true, false, Result, Ok, map}
 use Rattle.std.specs.List.{range_with_len}
 use Rattle.std.specs.Ordering.{is_eq}
-use Rattle.jv_data.specs.Kind.{kind_name}
 use Rattle.jv_data.specs.Value.{Value, null, boolean, number, string, array, object, keys, items_of, values_of, compare}
 
 abbrev pub Answer : Type 0
 Answer = Result Value Value
-
--- the error that a filter raises itself (manual of jq 1.7, "error(message)")
-abbrev pub error_of : Value → Value → Answer
-error_of v message = Err message
-
--- a value has no key of this kind
-abbrev pub cannot_check : Value → Value → List ℕ
-cannot_check v k = codes "Cannot check whether " ++ (kind_name v ++ (codes " has a " ++ (kind_name k ++ codes " key")))
 
 abbrev pub yes_or_no : Bool → Answer
 yes_or_no b = Ok (boolean b)

@@ -7,6 +7,8 @@ use Rattle.jv_value.specs.ErrorTexts.{cannot_iterate}
 use Rattle.jv_data.specs.Value.{Value, null, number, string, array, object, Items, no_items, item, Members, no_members, member, items_of, values_of}
 use Rattle.jq_natives.specs.Answers.{Answer}
 use Rattle.jq_natives.specs.Lists.{lists_of}
+use Rattle.jq_natives.specs.declared.native.Native.TheVariants as native
+use Rattle.jq_natives.specs.Entries.{NativeEntry, without_arguments, with_one}
 
 -- the code points or the items from the last to the first
 abbrev pub reverse_of : Value → Answer
@@ -52,3 +54,11 @@ transpose_error = raised (codes "transpose needs an array of arrays")
 abbrev pub transpose_of : Value → Answer
 transpose_of (array vs) = option_map_or (λ lists. Ok (columns lists)) (lists_of vs) transpose_error
 transpose_of v = transpose_error
+
+-- the natives of arrays
+abbrev pub array_natives : List NativeEntry
+array_natives =
+    without_arguments (codes "reverse") native.Reverse reverse_of
+    ∷ with_one (codes "flatten") native.Flatten flatten_of
+    ∷ without_arguments (codes "transpose") native.Transpose transpose_of
+    ∷ []

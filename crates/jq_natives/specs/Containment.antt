@@ -1,11 +1,13 @@
 -- Whether a value contains another (manual of jq 1.7, "contains(element)").
-use Rattle.std.specs.Prelude.{ℕ, ◌+◌, List, length, drop, nat_eq, Bool, true, false, ◌&&◌, codes, if◌then◌else◌}
+use Rattle.std.specs.Prelude.{ℕ, ◌+◌, List, [], ◌∷◌, length, drop, nat_eq, Bool, true, false, ◌&&◌, codes, if◌then◌else◌}
 use Rattle.std.specs.Option.{option_map_or}
 use Rattle.std.specs.List.{list_any, starts_with, range_with_len}
 use Rattle.jv_data.specs.Fails.{raised_kinds}
 use Rattle.jv_data.specs.Members.{member_at}
 use Rattle.jv_data.specs.Value.{Value, string, array, object, Items, no_items, item, values_of, Members, no_members, member, rank}
 use Rattle.jq_natives.specs.Answers.{Answer, yes_or_no, is_same}
+use Rattle.jq_natives.specs.declared.native.Native.TheVariants as native
+use Rattle.jq_natives.specs.Entries.{NativeEntry, with_one}
 
 -- the part occurs in the whole text
 abbrev pub is_within : List ℕ → List ℕ → Bool
@@ -33,3 +35,7 @@ abbrev pub contains_of : Value → Value → Answer
 contains_of v w =
     if nat_eq (rank v) (rank w) then yes_or_no (contained_in w v)
     else raised_kinds v w (codes " cannot have their containment checked")
+
+-- the native of containment
+abbrev pub containment_natives : List NativeEntry
+containment_natives = with_one (codes "contains") native.Contains contains_of ∷ []

@@ -4,6 +4,8 @@ pub mod Formats
 pub mod Sorting
 pub mod laws
 pub mod Answers
+pub mod Entries
+pub mod Errors
 pub mod Lists
 pub mod Sizes
 pub mod Kinds

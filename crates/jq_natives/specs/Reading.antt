@@ -1,5 +1,5 @@
 -- Numbers and values read from strings (manual of jq 1.7, "tonumber", "tojson, fromjson").
-use Rattle.std.specs.Prelude.{ℕ, List, ◌++◌, length, codes, true, Result, Ok, Err, encode_utf8_all}
+use Rattle.std.specs.Prelude.{ℕ, List, [], ◌∷◌, ◌++◌, length, codes, true, Result, Ok, Err, encode_utf8_all}
 use Rattle.std.specs.Option.{option_map_or}
 use Rattle.jv_data.specs.Fails.{raised, raised_kind}
 use Rattle.jv_data.specs.Value.{Value, number, string}
@@ -9,6 +9,8 @@ use Rattle.jv_number.specs.Number.{number_value}
 use Rattle.jv_text.specs.Reading.{text_of_cut}
 use Rattle.jv_text.specs.declared.faults.Fault.{Fault}
 use Rattle.jv_cut.specs.Cut.{cut_from}
+use Rattle.jq_natives.specs.declared.native.Native.TheVariants as native
+use Rattle.jq_natives.specs.Entries.{NativeEntry, without_arguments}
 
 abbrev pub not_a_number : Value → Answer
 not_a_number v = raised_kind v (codes " cannot be parsed as a number")
@@ -35,3 +37,10 @@ value_read bytes = read_answer (text_of_cut (length bytes) (cut_from 0 true 0 by
 abbrev pub fromjson_of : Value → Answer
 fromjson_of (string s) = value_read (encode_utf8_all s)
 fromjson_of v = raised_kind v (codes " cannot be parsed as JSON")
+
+-- the natives that read a string
+abbrev pub reading_natives : List NativeEntry
+reading_natives =
+    without_arguments (codes "tonumber") native.ToNumber tonumber_of
+    ∷ without_arguments (codes "fromjson") native.FromJson fromjson_of
+    ∷ []

@@ -5,6 +5,8 @@ use Rattle.jv_data.specs.Fails.{raised_kinds}
 use Rattle.jv_data.specs.Value.{Value, null, string, array, Items, no_items, item, values_of}
 use Rattle.jv_value.specs.Results.{map_ok}
 use Rattle.jq_natives.specs.Answers.{Answer, counts, is_same}
+use Rattle.jq_natives.specs.declared.native.Native.TheVariants as native
+use Rattle.jq_natives.specs.Entries.{NativeEntry, with_one}
 
 -- the indices of the whole at which the part begins, also where occurrences overlap
 abbrev pub places_of : {X : Type 0} → (X → X → Bool) → List X → List X → List ℕ
@@ -40,3 +42,11 @@ index_native_of v w = map_ok first_item (indices_of v w)
 
 abbrev pub rindex_native_of : Value → Value → Answer
 rindex_native_of v w = map_ok last_item (indices_of v w)
+
+-- the natives of searching
+abbrev pub searching_natives : List NativeEntry
+searching_natives =
+    with_one (codes "indices") native.Indices indices_of
+    ∷ with_one (codes "index") native.Index index_native_of
+    ∷ with_one (codes "rindex") native.LastIndex rindex_native_of
+    ∷ []

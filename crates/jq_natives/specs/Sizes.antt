@@ -1,11 +1,14 @@
 -- How large a value is, and which keys it has
 -- (manual of jq 1.7, "length", "utf8bytelength", "keys, keys_unsorted", "has(key)").
-use Rattle.std.specs.Prelude.{pos, length, codes, nat_abs, int_le, int_lt, ◌&&◌, Ok, is_some, encode_utf8_all}
+use Rattle.std.specs.Prelude.{List, [], ◌∷◌, pos, length, codes, nat_abs, int_le, int_lt, ◌&&◌, Ok, is_some, encode_utf8_all}
 use Rattle.jv_data.specs.Fails.{raised, raised_kind}
 use Rattle.jv_data.specs.Members.{member_at}
 use Rattle.jv_data.specs.Value.{Value, null, boolean, number, string, array, object, values_of, items_of, keys}
-use Rattle.jq_natives.specs.Answers.{Answer, cannot_check, yes_or_no, count, part_keys}
+use Rattle.jq_natives.specs.Answers.{Answer, yes_or_no, count, part_keys}
 use Rattle.jv_arith.specs.Numbers.{in_range}
+use Rattle.jq_natives.specs.Errors.{cannot_check}
+use Rattle.jq_natives.specs.declared.native.Native.TheVariants as native
+use Rattle.jq_natives.specs.Entries.{NativeEntry, without_arguments, with_one}
 
 -- null has length 0, a number its absolute value; else the number of code points, items or pairs
 abbrev pub length_of : Value → Answer
@@ -32,3 +35,13 @@ abbrev pub has_of : Value → Value → Answer
 has_of (object ms) (string k) = yes_or_no (is_some (member_at k ms))
 has_of (array vs) (number n) = yes_or_no (int_le (pos 0) n && int_lt n (pos (length (values_of vs))))
 has_of v k = raised (cannot_check v k)
+
+-- the natives of sizes and keys
+abbrev pub size_natives : List NativeEntry
+size_natives =
+    without_arguments (codes "length") native.Length length_of
+    ∷ without_arguments (codes "utf8bytelength") native.Utf8ByteLength utf8bytelength_of
+    ∷ without_arguments (codes "keys") native.Keys keys_of
+    ∷ without_arguments (codes "keys_unsorted") native.KeysUnsorted keys_of
+    ∷ with_one (codes "has") native.Has has_of
+    ∷ []

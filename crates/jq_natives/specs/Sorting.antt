@@ -5,6 +5,8 @@ use Rattle.std.specs.Ordering.{is_lt}
 use Rattle.jv_data.specs.Fails.{raised, raised_kind}
 use Rattle.jv_data.specs.Value.{Value, null, array, items_of, values_of, compare}
 use Rattle.jq_natives.specs.Answers.{Answer, is_same}
+use Rattle.jq_natives.specs.declared.native.Native.TheVariants as native
+use Rattle.jq_natives.specs.Entries.{NativeEntry, with_one}
 
 -- an item of an array with the key that it is sorted by
 abbrev pub Keyed : Type 0
@@ -92,3 +94,13 @@ min_by_of = chosen_answer first_of_group
 -- the last item of the greatest key, or null if there is no item
 abbrev pub max_by_of : Value → Value → Answer
 max_by_of = chosen_answer last_of_group
+
+-- the natives of sorting by keys; the argument is the array of the items' keys
+abbrev pub sorting_natives : List NativeEntry
+sorting_natives =
+    with_one (codes "_sort_by") native.SortBy sort_by_of
+    ∷ with_one (codes "_group_by") native.GroupBy group_by_of
+    ∷ with_one (codes "_unique_by") native.UniqueBy unique_by_of
+    ∷ with_one (codes "_min_by") native.MinBy min_by_of
+    ∷ with_one (codes "_max_by") native.MaxBy max_by_of
+    ∷ []

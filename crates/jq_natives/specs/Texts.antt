@@ -8,6 +8,8 @@ use Rattle.jv_data.specs.Value.{Value, number, string, array, Items, no_items, i
 use Rattle.jq_natives.specs.Answers.{Answer, yes_or_no, counts}
 use Rattle.jv_arith.specs.Strings.{split_of}
 use Rattle.jv_text.specs.Printed.{json_text, text_of_value}
+use Rattle.jq_natives.specs.declared.native.Native.TheVariants as native
+use Rattle.jq_natives.specs.Entries.{NativeEntry, without_arguments, with_one}
 
 abbrev pub tostring_of : Value → Answer
 tostring_of v = Ok (string (text_of_value v))
@@ -74,3 +76,19 @@ ascii_downcase_of v = raised (codes "ascii_downcase input must be a string")
 abbrev pub ascii_upcase_of : Value → Answer
 ascii_upcase_of (string s) = Ok (string (map ascii_upper s))
 ascii_upcase_of v = raised (codes "ascii_upcase input must be a string")
+
+-- the natives of strings
+abbrev pub text_natives : List NativeEntry
+text_natives =
+    without_arguments (codes "tostring") native.ToString tostring_of
+    ∷ without_arguments (codes "tojson") native.ToJson tojson_of
+    ∷ without_arguments (codes "explode") native.Explode explode_of
+    ∷ without_arguments (codes "implode") native.Implode implode_of
+    ∷ with_one (codes "split") native.Split split_native_of
+    ∷ with_one (codes "startswith") native.StartsWith startswith_of
+    ∷ with_one (codes "endswith") native.EndsWith endswith_of
+    ∷ with_one (codes "ltrimstr") native.TrimStart ltrimstr_of
+    ∷ with_one (codes "rtrimstr") native.TrimEnd rtrimstr_of
+    ∷ without_arguments (codes "ascii_downcase") native.AsciiDowncase ascii_downcase_of
+    ∷ without_arguments (codes "ascii_upcase") native.AsciiUpcase ascii_upcase_of
+    ∷ []

@@ -2,7 +2,7 @@
 ghost use Rattle.jv_data.specs.Fails.{FailsAs, raised};
 ghost use Rattle.jv_data.specs.Value.{Value};
 ghost use Rattle.jv_data.specs.View.{view};
-ghost use Rattle.jq_natives.specs.Answers.{cannot_check, error_of};
+ghost use Rattle.jq_natives.specs.Errors.{cannot_check, error_of};
 
 use jv_data::{Fail, Val, raise_with_kinds};
 use std::alloc::Global;

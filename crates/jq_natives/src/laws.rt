@@ -2,16 +2,18 @@
 
 ghost use Rattle.std.specs.Prelude.{◌≡◌, ℕ, List, Ok, Some, flat_map, map, true};
 ghost use Rattle.std.specs.List.{list_all};
-ghost use Rattle.jv_data.specs.Value.{string};
+ghost use Rattle.jv_data.specs.Value.{Value, string};
 ghost use Rattle.jq_natives.specs.Answers.{counts};
-ghost use Rattle.jq_natives.specs.Natives.{native_named, table};
+ghost use Rattle.jq_natives.specs.Natives.{answer_of_native, native_named, table};
 ghost use Rattle.jq_natives.specs.Sorting.{Keyed, sorted, groups};
 ghost use Rattle.jq_natives.specs.Texts.{is_code_point, implode_of, explode_of};
 ghost use Rattle.jq_natives.specs.laws.Sorting.{IsArranged, AreGroups};
 
-/// Each entry of the table is found by its name and its number of arguments, so no entry hides another.
-pub fn table_has_each_name_once()
-    ensures { map (λ r. native_named r.name r.arguments) table ≡ map (λ r. Some r.means) table }
+/// Each entry of the table is found by its name and its number of arguments, and by its native, so no entry hides another.
+pub fn no_entry_hides_another()
+    ensures names { map (λ r. native_named r.name r.arguments) table ≡ map (λ r. Some r.means) table }
+    ensures answers { (input : Value) (arguments : List Value) →
+        map (λ r. answer_of_native r.means input arguments) table ≡ map (λ r. r.answers input arguments) table }
 {}
 
 /// A sort keeps the items, puts them in the order of their keys, and keeps the order of items with equal keys. No other

@@ -11,7 +11,8 @@ use Rattle.jv_text.specs.Formats.{format_named}
 use Rattle.jq_natives.specs.declared.native.Native.{Native}
 use Rattle.jq_natives.specs.contracts.native.NativeEq.TheImpl.Laws as native_laws
 use Rattle.jv_text.specs.contracts.formats.names.FormatEq.TheImpl.Laws as format_laws
-use Rattle.jq_natives.specs.Natives.{NativeEntry, native_in, native_named, table}
+use Rattle.jq_natives.specs.Entries.{NativeEntry}
+use Rattle.jq_natives.specs.Natives.{native_in, native_named, table}
 use Rattle.jq_tree.specs.BoundTree.{in_language, nowhere}
 use Rattle.jq_tree.specs.Names.{Reference, to_function, to_format, same_reference, Scope, is_bound, core_names, natives, formats, language}
 use Rattle.jq_ast.specs.Bound.{binder_at, is_native, is_format}
