@@ -8,8 +8,7 @@ use Rattle.jv_text.specs.declared.formats.names.Format.{Format}
 use Rattle.jv_text.specs.contracts.formats.names.FormatPartialEq.TheImpl as format_eq
 use Rattle.jv_text.specs.Formats.{format_named}
 use Rattle.jq_natives.specs.declared.native.Native.{Native}
-use Rattle.jq_natives.specs.contracts.native.NativePartialEq.TheImpl as native_eq
-use Rattle.jq_natives.specs.Natives.{native_named}
+use Rattle.jq_natives.specs.Natives.{native_named, same_native}
 use Rattle.jq_tree.specs.Names.{Reference, to_function, to_variable, to_label, to_format, same_reference}
 use Rattle.jq_tree.specs.BoundTree.{Binder, bound_at, in_language, nowhere, BoundTree, BoundTrees, BoundPieces, BoundEntry, BoundEntries, BoundPattern, BoundPatterns, BoundPart, BoundParts}
 use Rattle.jq_tree.specs.BoundTree as tied
@@ -28,10 +27,7 @@ use Rattle.jq_ast.specs.declared.tree.Member.TheOpen.{Tree-F, Pattern-F, Member-
 
 -- ---- the binder of a name, by its referent
 
--- Whether two natives, or two formats, are one: their derived `==`.
-abbrev pub same_native : Native → Native → Bool
-same_native = (native_eq.ghosts).eq
-
+-- Whether two formats are one: their derived `==`.
 abbrev pub same_format : Format → Format → Bool
 same_format = (format_eq.ghosts).eq
 
