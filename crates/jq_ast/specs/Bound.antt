@@ -158,6 +158,7 @@ bound_tree (Tree-F.Define f g) n =
     tied.define (text_of f.value.name) (map text_of f.value.parameters.items) (f.value.body (suc n + length f.value.parameters.items)) (g.value (suc n))
 bound_tree (Tree-F.Call f ts) n = tied.call (name_of f) (function_at f (length ts.items) n) (bound_trees ts.items n)
 bound_tree (Tree-F.PreludeCall f ts) n = tied.prelude_call (name_of f) (function_at f (length ts.items) n) (bound_trees ts.items n)
+bound_tree (Tree-F.Update m ts) n = tied.prelude_call (name_of m.name) (function_at m.name (length ts.value) n) (bound_trees ts.value n)
 
 abbrev pub bound : Tree → (around : ℕ) → BoundTree
 bound = fold-Tree (Around BoundPart) (Around BoundPattern) (Around BoundTree) bound_member bound_pattern bound_tree

@@ -66,6 +66,7 @@ named_tree (Tree-F.Foreach f p g h i) = tree.foreach f.value p.value g.value h.v
 named_tree (Tree-F.Define f g) = tree.define (text_of f.value.name) (map text_of f.value.parameters.items) f.value.body g.value
 named_tree (Tree-F.Call n fs) = tree.call (name_of n) (tree.trees_of fs.items)
 named_tree (Tree-F.PreludeCall n fs) = tree.prelude_call (name_of n) (tree.trees_of fs.items)
+named_tree (Tree-F.Update m fs) = tree.prelude_call (name_of m.name) (tree.trees_of fs.value)
 
 abbrev pub named : Tree → tree.Tree
 named = fold-Tree tree.Part tree.Pattern tree.Tree named_member named_pattern named_tree

@@ -20,6 +20,6 @@ mod tree;
 
 pub use core_names::core_of;
 pub use leaves::{Key, Literal};
-pub use names::{Core, Name, Referent};
+pub use names::{Core, Modify, Name, Referent};
 pub use operators::Operator;
 pub use tree::{Entry, Function, Member, Pattern, Piece, Tree, boxed};

@@ -2,7 +2,7 @@
 ghost use Rattle.std.specs.Prelude.{◌≡◌, IfOk};
 
 use crate::leaves::{Key, Literal};
-use crate::names::Name;
+use crate::names::{Modify, Name};
 use crate::operators::Operator;
 use std::alloc::{AllocError, Global};
 
@@ -115,6 +115,8 @@ pub enum Tree {
     Call(Name, Vec<Tree>),
     /// The prelude's own function, even if it is redefined later.
     PreludeCall(Name, Vec<Tree>),
+    /// `f |= g`: the prelude's own `_modify(f; g)`.
+    Update(Modify, Box<[Tree; 2]>),
 }
 
 /// A tree in a box of its own.

@@ -1,5 +1,5 @@
 -- The trees with lists in them, by the contents of the lists. The characters of keywords and names, and the literals among names.
-use Rattle.std.proofs.Common.{◌≡◌, ℕ, List, [], ◌∷◌, ◌++◌, map, Vec, String, Global, true, false, refl, ap, sym, ◌∙◌, arith, codes, ◌+◌, ◌<◌, length, take, get_or}
+use Rattle.std.proofs.Common.{◌≡◌, ℕ, List, [], ◌∷◌, ◌++◌, map, Box, Vec, String, Global, true, false, refl, ap, sym, ◌∙◌, arith, codes, ◌+◌, ◌<◌, length, take, get_or}
 use Rattle.std.proofs.lemmas.List.{take_more}
 use Rattle.std.specs.Str.{bytes_eq}
 use Rattle.std.specs.Str.{chars}
@@ -10,7 +10,8 @@ use Rattle.jq_tree.specs.Token as token
 use Rattle.jq_tree.specs.WrittenOut as written
 use Rattle.jq_tree.specs.Grammar as g
 use Rattle.jq_ast.specs.Named.{named, named_as_pattern, named_as_part, name_of, pieces_of, named_entry, named_piece}
-use Rattle.jq_ast.proofs.shared.Forms.{named-Text, named-Object, named-Call, named-PreludeCall, named-Items, named-Members}
+use Rattle.jq_ast.proofs.shared.Forms.{named-Text, named-Object, named-Call, named-PreludeCall, named-Update, named-Items, named-Members}
+use Rattle.jq_ast.specs.declared.names.Modify.{Modify}
 use Rattle.jq_ast.specs.declared.names.Name.{Name}
 use Rattle.jq_ast.specs.declared.tree.Entry.{Entry}
 use Rattle.jq_ast.specs.declared.tree.Piece.{Piece}
@@ -47,6 +48,10 @@ named_call n v = named-Call n v ∙ ap (tree.call (name_of n)) (trees_onto (map 
 
 pub named_prelude_call : (n : Name) (v : Vec Tree Global) → named (t.PreludeCall n v) ≡ tree.prelude_call (name_of n) (built.onto tree.more_trees (map named v.items) tree.no_trees)
 named_prelude_call n v = named-PreludeCall n v ∙ ap (tree.prelude_call (name_of n)) (trees_onto (map named v.items))
+
+pub named_update : (m : Modify) (ts : Box (List Tree) Global) → named (t.Update m ts) ≡ tree.prelude_call (codes "_modify") (built.onto tree.more_trees (map named ts.value) tree.no_trees)
+named_update m ts =
+    named-Update m ts ∙ ap (λ n. tree.prelude_call n (tree.trees_of (map named ts.value))) m.same ∙ ap (tree.prelude_call (codes "_modify")) (trees_onto (map named ts.value))
 
 pub named_items : (v : Vec Pattern Global) → named_as_pattern (p.Items v) ≡ tree.items (built.onto tree.more_patterns (map named_as_pattern v.items) tree.no_patterns)
 named_items v = named-Items v ∙ ap tree.items (patterns_onto (map named_as_pattern v.items))
@@ -91,10 +96,6 @@ keyword_characters token.Location = refl
 pub recurse_characters : chars (codes "recurse") ≡ codes "recurse"
 unfolding chars
 recurse_characters = refl
-
-pub modify_characters : chars (codes "_modify") ≡ codes "_modify"
-unfolding chars
-modify_characters = refl
 
 pub assign_characters : chars (codes "_assign") ≡ codes "_assign"
 unfolding chars

@@ -13,7 +13,9 @@ ghost use Rattle.jq_builders.specs.Trees as built;
 ghost use Rattle.jq_builders.specs.Views.{tree_in, pattern_in, maybe, branch_of, piece_of, pieces_of, entry_key_of, value_key_of, part_key_of, parameter_of, definition_of};
 
 use crate::parts::*;
-use jq_ast::{Entry, Key, Literal, Member, Name, Operator, Pattern, Piece, Referent, Tree, boxed};
+use jq_ast::{
+    Entry, Key, Literal, Member, Modify, Name, Operator, Pattern, Piece, Referent, Tree, boxed,
+};
 use jq_lexer::{Keyword, Natural, Symbol, Token};
 use std::alloc::{AllocError, Global};
 
@@ -102,7 +104,7 @@ pub fn with_question(alloc: Global, last: bool, a: Box<Tree>) -> Result<Box<Tree
     }
 }
 
-#[tactic(auto, using(crate::proofs::Levels::named_call, crate::proofs::Levels::named_prelude_call, crate::proofs::Levels::named_object, crate::proofs::Levels::named_text))]
+#[tactic(auto, using(crate::proofs::Levels::named_call, crate::proofs::Levels::named_prelude_call, crate::proofs::Levels::named_update, crate::proofs::Levels::named_object, crate::proofs::Levels::named_text))]
 fn guarded(alloc: Global, a: Box<Tree>) -> Result<Box<Tree>, AllocError>
     ensures { IfOk result (λ r. tree_in r ≡ written.guarded (tree_in a)) }
 {
@@ -136,6 +138,7 @@ fn guarded(alloc: Global, a: Box<Tree>) -> Result<Box<Tree>, AllocError>
         Tree::Define(a, b) => boxed(alloc, Tree::Define(a, b)),
         Tree::Call(a, b) => boxed(alloc, Tree::Call(a, b)),
         Tree::PreludeCall(a, b) => boxed(alloc, Tree::PreludeCall(a, b)),
+        Tree::Update(a, b) => boxed(alloc, Tree::Update(a, b)),
     }
 }
 
@@ -492,22 +495,6 @@ fn joined_by(
     }
 }
 
-#[tactic(auto, using(crate::proofs::Levels::named_prelude_call))]
-fn prelude_call(
-    alloc: Global,
-    name: &str,
-    a: Box<Tree>,
-    b: Box<Tree>,
-) -> Result<Box<Tree>, AllocError>
-    ensures { IfOk result (λ t. tree_in t ≡ tree.prelude_call (chars name.now) (tree.more_trees (tree_in a) (tree.more_trees (tree_in b) tree.no_trees))) }
-{
-    let name = name_from(alloc, name)?;
-    let mut arguments = Vec::new(alloc);
-    arguments.push(unboxed(a))?;
-    arguments.push(unboxed(b))?;
-    boxed(alloc, Tree::PreludeCall(name, arguments))
-}
-
 fn no_text(alloc: Global) -> String
     ensures { text_of result ≡ [] }
 {
@@ -527,18 +514,24 @@ fn unnamed_pattern(alloc: Global) -> Result<Box<Pattern>, AllocError>
     boxed_pattern(alloc, Pattern::Whole(no_text(alloc)))
 }
 
-#[tactic(auto, using(crate::proofs::Levels::modify_characters))]
+#[tactic(auto, using(crate::proofs::Levels::named_update))]
 fn modified(alloc: Global, a: Box<Tree>, b: Box<Tree>) -> Result<Box<Tree>, AllocError>
     ensures { IfOk result (λ t. tree_in t ≡ written.modify (tree_in a) (tree_in b)) }
 {
-    prelude_call(alloc, "_modify", a, b)
+    let name = Modify::new(alloc)?;
+    let parts = Box::new(alloc, [unboxed(a), unboxed(b)])?;
+    boxed(alloc, Tree::Update(name, parts))
 }
 
-#[tactic(auto, using(crate::proofs::Levels::assign_characters))]
+#[tactic(auto, using(crate::proofs::Levels::named_prelude_call, crate::proofs::Levels::assign_characters))]
 fn assigned(alloc: Global, a: Box<Tree>, b: Box<Tree>) -> Result<Box<Tree>, AllocError>
     ensures { IfOk result (λ t. tree_in t ≡ written.assign (tree_in a) (tree_in b)) }
 {
-    prelude_call(alloc, "_assign", a, b)
+    let name = name_from(alloc, "_assign")?;
+    let mut arguments = Vec::new(alloc);
+    arguments.push(unboxed(a))?;
+    arguments.push(unboxed(b))?;
+    boxed(alloc, Tree::PreludeCall(name, arguments))
 }
 
 // `f op= g` is `g as $v | f |= (. op $v)`.

@@ -10,8 +10,9 @@ pub(crate) fn is_tried(tree: &Tree) -> bool {
         Tree::Alternative(_, _) => true,
         Tree::Choice(_, _, _) => true,
         Tree::TryCatch(body, _) => is_reading(body),
-        Tree::Pipe(first, _) => is_reading(first),
-        Tree::BindAs(_, pattern, _) => is_whole(pattern) || is_turn(tree),
+        Tree::Pipe(first, second) => is_reading(first) && !takes_apart(second),
+        Tree::Update(_, _) => true,
+        Tree::BindAs(_, pattern, _) => is_whole(pattern),
         Tree::Call(name, _) => may_run(name),
         _ => is_reading(tree),
     }
@@ -27,17 +28,10 @@ fn is_value(tree: &Tree) -> bool {
     }
 }
 
-// Whether a filter may be a turn of an update: `. as [$x, $d] | ..`.
-fn is_turn(tree: &Tree) -> bool {
+// Whether a filter takes its input apart by a pattern, which is not run at once.
+fn takes_apart(tree: &Tree) -> bool {
     match tree {
-        Tree::BindAs(source, pattern, _) => is_value(source) && is_pair(pattern),
-        _ => false,
-    }
-}
-
-fn is_pair(pattern: &Pattern) -> bool {
-    match pattern {
-        Pattern::Items(parts) => parts.len() == 2,
+        Tree::BindAs(_, pattern, _) => !is_whole(pattern),
         _ => false,
     }
 }
@@ -75,7 +69,7 @@ pub(crate) fn is_small(tree: &Tree) -> bool {
             is_simple(condition) && is_simple(holds) && is_simple(fails)
         }
         Tree::Call(name, arguments) => is_native(name) && are_parts(arguments.as_slice()),
-        _ => is_turn(tree),
+        _ => false,
     }
 }
 

@@ -17,12 +17,12 @@ use Rattle.jq_state.specs.Nodes.{program_binding}
 use Rattle.jq_state.specs.declared.environments.ProgramBinding.{ProgramBinding}
 use Rattle.jq_filters.specs.Programs.{bindings_of, function_binding, value_binding}
 
-added : (xs ys : List env.Binding) (e : Env) → with_bindings (xs ++ ys) e ≡ with_bindings ys (with_bindings xs e)
+pub added : (xs ys : List env.Binding) (e : Env) → with_bindings (xs ++ ys) e ≡ with_bindings ys (with_bindings xs e)
 added [] ys e = refl
 added (x ∷ xs) ys e = added xs ys (bound x e)
 
 -- the first variable is the innermost
-variables_around : (vs : List (Name × Value)) (e : Env) → with_bindings (reverse (map value_binding vs)) e ≡ with_variables vs e
+pub variables_around : (vs : List (Name × Value)) (e : Env) → with_bindings (reverse (map value_binding vs)) e ≡ with_variables vs e
 variables_around [] e = refl
 variables_around (v ∷ vs) e =
     ap (λ bs. with_bindings bs e) (reverse-append (value_binding v ∷ []) (map value_binding vs)) ∙ added (reverse (map value_binding vs)) (value_binding v ∷ []) e

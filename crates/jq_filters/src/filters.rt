@@ -52,7 +52,7 @@ impl Filter {
         let plan = program.plan();
         let halts = program.halts();
         let (tree, functions) = program.into_parts();
-        let bindings = bindings_of(alloc, options.vars, functions)?;
+        let bindings = bindings_of(alloc, options.vars, functions, &tree)?;
         Ok(Filter {
             tree,
             bindings,

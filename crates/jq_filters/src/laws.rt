@@ -5,6 +5,7 @@ ghost use Rattle.jq_meaning.specs.Runs.{Run, Item};
 ghost use Rattle.jq_filters.specs.Outcomes.{Job, Mode, first_halt, runs_in, up_to_halt};
 ghost use Rattle.jq_filters.specs.Unhalted.{NeverHalts};
 ghost use Rattle.jq_filters.specs.laws.Bindings.{BindingsStandForThePrelude, FunctionsComeAfterTheVariables};
+ghost use Rattle.jq_filters.specs.laws.Updates.{FunctionsAreThePreludes, ModifyIsKnown};
 ghost use Rattle.jq_filters.specs.laws.Unhalted.{NeverHaltsAfterThePrelude, NeverHaltsInItsBindings};
 
 use jq_syntax::prelude_laws::{only_halt_error_halts, prelude_is_accepted};
@@ -13,6 +14,18 @@ use jq_syntax::prelude_laws::{only_halt_error_halts, prelude_is_accepted};
 #[tactic(auto, using(crate::proofs::Around::runs_as_whole))]
 pub fn bindings_stand_for_the_prelude()
     ensures { BindingsStandForThePrelude }
+{}
+
+/// The functions of a program are those that the prelude's text defines.
+pub fn functions_are_the_preludes()
+    ensures { FunctionsAreThePreludes }
+{
+    prelude_is_accepted();
+}
+
+/// Among the bindings of a program is the prelude's `_modify`.
+pub fn the_prelude_has_modify()
+    ensures { ModifyIsKnown }
 {}
 
 /// The bindings of a program are those of its functions, around which are the variables.

@@ -5,7 +5,7 @@
 //! over a stream write and with which status they end, `specs/Present.antt` the same where all values are present. It is apart from
 //! `jq_stream`, which makes these runs, since `jq_fold_steps` stands on it alone.
 //!
-//! Entry: `Filter`, `Runner`, `bindings_of`. Tests: `tests/options.toml`, `jq_tests`.
+//! Entry: `Filter`, `Runner`. Tests: `tests/options.toml`, `jq_tests`.
 #![tactic(auto)]
 
 mod filters;
@@ -15,6 +15,5 @@ mod runner;
 mod settings;
 
 pub use filters::Filter;
-pub use programs::bindings_of;
 pub use runner::{Runner, no_inputs};
 pub use settings::{Mode, Settings};

@@ -6,6 +6,7 @@ use Rattle.jq_tree.specs.Tree as t
 use Rattle.jq_tree.specs.Names.{to_function}
 use Rattle.jv_data.specs.Text.{text_of}
 use Rattle.jq_ast.specs.Named.{named, name_of, pieces_of, named_member, named_pattern, named_tree}
+use Rattle.jq_ast.specs.declared.names.Modify.{Modify}
 use Rattle.jq_ast.specs.declared.names.Name.{Name}
 use Rattle.jq_ast.specs.declared.tree.Function.{Function}
 use Rattle.jq_ast.specs.declared.tree.Piece.{Piece}
@@ -14,7 +15,7 @@ use Rattle.jq_ast.specs.declared.tree.Tree as tree
 use Rattle.jq_ast.specs.declared.tree.Tree.TheVariants.{rolls-Text}
 use Rattle.jq_ast.specs.declared.tree.Member.TheFolds.{fold-roll-Tree}
 use Rattle.jq_ast.specs.declared.tree.Member.TheOpen.{Tree-F}
-use Rattle.jq_ast.proofs.shared.Forms.{named-Call, named-Define, named-PreludeCall}
+use Rattle.jq_ast.proofs.shared.Forms.{named-Call, named-Define, named-PreludeCall, named-Update}
 use Rattle.jq_inputs.specs.declared.hidden.Hidden.{Hidden}
 use Rattle.jq_inputs.specs.private.Pieces.{pieces_in}
 use Rattle.jq_inputs.specs.private.Hidden.{nothing_hidden, hiding, is_halt}
@@ -51,6 +52,11 @@ pub halts-PreludeCall : (h : Hidden) (n : Name) (ts : Vec Tree Global)
     → halts_in h (named (tree.PreludeCall n ts)) ≡ (is_halt nothing_hidden (to_function (name_of n) (length ts.items)) || halts_in_trees h (t.trees_of (map named ts.items)))
 halts-PreludeCall h n ts = ap (halts_in h) (named-PreludeCall n ts)
     ∙ ap (λ (k : ℕ). is_halt nothing_hidden (to_function (name_of n) k) || halts_in_trees h (t.trees_of (map named ts.items))) (counted ts.items)
+
+-- `_modify` does not halt
+pub halts-Update : (h : Hidden) (m : Modify) (ts : Box (List Tree) Global) → halts_in h (named (tree.Update m ts)) ≡ halts_in_trees h (t.trees_of (map named ts.value))
+halts-Update h m ts = ap (halts_in h) (named-Update m ts)
+    ∙ ap (λ (n : t.Name). is_halt nothing_hidden (to_function n (t.trees_count (t.trees_of (map named ts.value)))) || halts_in_trees h (t.trees_of (map named ts.value))) m.same
 
 pub once-Define : (h : Hidden) (f : Box (Function Tree) Global) (g : Box Tree Global)
     → once_in h (named (tree.Define f g)) ≡ once_in (hiding (to_function (text_of f.value.name) (length f.value.parameters.items)) h) (named g.value)

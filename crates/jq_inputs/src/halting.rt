@@ -77,6 +77,7 @@ fn halts(tree: &Tree, hidden: Hidden) -> bool
             Hidden::nothing().is_halt(name.text.as_str(), arguments.len())
                 || in_trees(arguments.as_slice(), hidden)
         }
+        Tree::Update(_, parts) => in_trees(&**parts, hidden),
     }
 }
 

@@ -72,6 +72,7 @@ pub(crate) fn survey(tree: &Tree, hidden: Hidden) -> Survey
             survey_call(name.text.as_str(), arguments.as_slice(), hidden)
         }
         Tree::PreludeCall(_, arguments) => Survey::often(in_trees(arguments.as_slice(), hidden)),
+        Tree::Update(_, parts) => Survey::often(in_trees(&**parts, hidden)),
     }
 }
 

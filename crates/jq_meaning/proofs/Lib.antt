@@ -3,3 +3,4 @@ pub mod NoBreaks
 pub mod Ranges
 pub mod shared
 pub mod environments
+pub mod updating

@@ -7,4 +7,5 @@ pub mod Continuations
 pub mod Meaning
 pub mod Programs
 pub mod machine
+pub mod updates
 pub mod laws

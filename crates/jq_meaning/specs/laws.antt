@@ -9,3 +9,5 @@ pub mod Places
 pub mod Scopes
 pub mod Programs
 pub mod Starts
+pub mod Updating
+pub mod Updates

@@ -1,5 +1,6 @@
 pub mod CoreCalls
 pub mod Programs
+pub mod KnownUpdates
 pub mod Binding
 pub mod Transitions
 pub mod Coming

@@ -32,7 +32,7 @@ got [] i x e = absurd (cc)
 got (y ∷ ys) zero x e = let p : y ≡ x = cc in (omega arith, p)
 got (y ∷ ys) (suc i) x e = let h = got ys i x e in let l : i < length ys = h.0 in (omega (arith, l), h.1)
 
-abbrev Comes : Nodes → Type 0
+abbrev pub Comes : Nodes → Type 0
 Comes ns = (inputs : Run Value) (j : ℕ) → j ≤ length (program_of ns) → env_at (envs_of inputs ns) j ≡ program_env (program_of ns) j inputs
 
 pub is_a_list : ProgramsGrow → (ns : Nodes) → Comes ns → ProgramIsAList ns
@@ -61,7 +61,7 @@ has_no_labels ns comes inputs n j h = ap (find_level n) (comes inputs j h) ∙ n
 
 -- ---- the prelude's functions
 
-there : {A : Type 0} (xs : List A) (i : ℕ) → i < length xs → (x : A) × (slice_get xs i ≡ Some x)
+pub there : {A : Type 0} (xs : List A) (i : ℕ) → i < length xs → (x : A) × (slice_get xs i ≡ Some x)
 there [] i h = absurd (omega (arith, h))
 there (x ∷ xs) zero h = (x, refl)
 there (x ∷ xs) (suc i) h = let l : i < length xs = omega (arith, h) in there xs i l

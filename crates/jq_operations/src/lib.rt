@@ -35,6 +35,7 @@ mod ranges;
 mod settings;
 mod texts;
 mod turns;
+mod updates;
 mod values;
 pub mod waiting;
 
@@ -51,4 +52,5 @@ pub use prelude::find_in_prelude;
 pub use settings::{Setting, keeping_of, setting_of};
 pub use texts::{Inserted, text_in_format};
 pub use turns::{keep, one_path, put};
+pub use updates::has_modify;
 pub use values::{enter_variable, find_value};

@@ -11,6 +11,7 @@ use Rattle.jq_ast.specs.Bound.{bound, bound_pieces, bound_trees, variables_in, f
 use Rattle.jq_resolver.specs.private.BoundParts.{bound_as_pattern}
 use Rattle.jq_ast.specs.Leaves.{key_of}
 use Rattle.jq_ast.specs.declared.leaves.Key.{Key}
+use Rattle.jq_ast.specs.declared.names.Modify.{Modify}
 use Rattle.jq_ast.specs.declared.names.Name.{Name}
 use Rattle.jq_ast.specs.declared.tree.Entry.{Entry}
 use Rattle.jq_ast.specs.declared.tree.Entry.TheVariants as entry
@@ -87,6 +88,24 @@ in_PreludeCall s t x x' ts ts' e b c =
           ∙ ap (λ z. form.prelude_call (name_of x) z (bound_trees (map bound ts'.items) n)) b ∙ ap (λ zs. form.prelude_call (name_of x) (prelude_binder s (to_function (name_of x) (length ts.items))) zs) r.binders
           ∙ ap (λ k. form.prelude_call (name_of x) (prelude_binder s (to_function (name_of x) k)) (trees_in s (tree.trees_of (map named ts.items)))) (sym (count_of ts.items))
           ∙ ap (bound_in s) (sym (ast.named-PreludeCall x ts));
+    }
+
+pub in_Update : (s t : Scope) (m m' : Modify) (ts ts' : Box (List Tree) Global) → name_of m'.name ≡ name_of m.name
+    → function_at m'.name (length ts.value) (length s) ≡ prelude_binder s (to_function (name_of m.name) (length ts.value)) → Chain IsResolved s t ts.value ts'.value
+    → IsResolved s t (code.Update m ts) (code.Update m' ts')
+in_Update s t m m' ts ts' e b c =
+    let r : AreResolved s t ts.value ts'.value = trees_resolved s t ts.value ts'.value c in
+    let n = length s in
+    let x = m.name in
+    let x' = m'.name in
+    record {
+      same = r.same;
+      names = ast.named-Update m' ts' ∙ ap (λ z. tree.prelude_call z (tree.trees_of (map named ts'.value))) e ∙ ap (λ zs. tree.prelude_call (name_of x) (tree.trees_of zs)) r.names ∙ sym (ast.named-Update m ts);
+      binders = level.bound-Update m' ts' n ∙ ap (λ z. form.prelude_call z (function_at x' (length ts'.value) n) (bound_trees (map bound ts'.value) n)) e
+          ∙ ap (λ k. form.prelude_call (name_of x) (function_at x' k n) (bound_trees (map bound ts'.value) n)) (same_count ts.value ts'.value r.names)
+          ∙ ap (λ z. form.prelude_call (name_of x) z (bound_trees (map bound ts'.value) n)) b ∙ ap (λ zs. form.prelude_call (name_of x) (prelude_binder s (to_function (name_of x) (length ts.value))) zs) r.binders
+          ∙ ap (λ k. form.prelude_call (name_of x) (prelude_binder s (to_function (name_of x) k)) (trees_in s (tree.trees_of (map named ts.value)))) (sym (count_of ts.value))
+          ∙ ap (bound_in s) (sym (ast.named-Update m ts));
     }
 
 -- ---- binders: a scope is entered and left again

@@ -8,6 +8,7 @@ use Rattle.jq_ast.specs.Named.{name_of}
 use Rattle.jq_ast.specs.Bound.{Around, bound, bound_pieces, bound_entry, bound_entries, bound_trees, bound_patterns, bound_parts, bound_member, bound_pattern, bound_tree, variables_in, format_at, function_at}
 use Rattle.jq_resolver.specs.private.BoundParts.{bound_as_part, bound_as_pattern}
 use Rattle.jq_ast.specs.declared.leaves.Key.{Key}
+use Rattle.jq_ast.specs.declared.names.Modify.{Modify}
 use Rattle.jq_ast.specs.declared.names.Name.{Name}
 use Rattle.jq_ast.specs.declared.operators.Operator.{Operator}
 use Rattle.jq_ast.specs.declared.tree.Entry.{Entry}
@@ -108,6 +109,9 @@ bound-Call x ts n = ap (λ t. bound t n) (sym (code.rolls-Call x ts)) ∙ ap (λ
 
 pub bound-PreludeCall : (x : Name) (ts : Vec Tree Global) (n : ℕ) → bound (code.PreludeCall x ts) n ≡ form.prelude_call (name_of x) (function_at x (length ts.items) n) (bound_trees (map bound ts.items) n)
 bound-PreludeCall x ts n = ap (λ t. bound t n) (sym (code.rolls-PreludeCall x ts)) ∙ ap (λ g. g n) (fold-roll-Tree (Around form.BoundPart) (Around form.BoundPattern) (Around form.BoundTree) bound_member bound_pattern bound_tree (Tree-F.PreludeCall x ts)) ∙ ap (λ k. form.prelude_call (name_of x) (function_at x k n) (bound_trees (map bound ts.items) n)) (length-map ts.items bound)
+
+pub bound-Update : (m : Modify) (ts : Box (List Tree) Global) (n : ℕ) → bound (code.Update m ts) n ≡ form.prelude_call (name_of m.name) (function_at m.name (length ts.value) n) (bound_trees (map bound ts.value) n)
+bound-Update m ts n = ap (λ t. bound t n) (sym (code.rolls-Update m ts)) ∙ ap (λ g. g n) (fold-roll-Tree (Around form.BoundPart) (Around form.BoundPattern) (Around form.BoundTree) bound_member bound_pattern bound_tree (Tree-F.Update m ts)) ∙ ap (λ k. form.prelude_call (name_of m.name) (function_at m.name k n) (bound_trees (map bound ts.value) n)) (length-map ts.value bound)
 
 -- ---- patterns
 

@@ -25,6 +25,14 @@ chain_more Does s t u (x' ∷ xs) (y' ∷ ys) x y c d = (c.0, c.1, chain_more Do
 chain_more Does s t u [] (y' ∷ ys) x y c d = absurd c
 chain_more Does s t u (x' ∷ xs) [] x y c d = absurd c
 
+-- a list of two
+pub chain_two : (s t u : Scope) (ts : List Tree) (d e x y : Tree) → length ts ≡ 2 → IsResolved s t (get_or ts 0 d) x → IsResolved t u (get_or (set ts 0 x) 1 e) y
+    → Chain IsResolved s u ts (set (set ts 0 x) 1 y)
+chain_two s t u [] d e x y n r q = absurd (omega (arith, n))
+chain_two s t u (a ∷ []) d e x y n r q = absurd (omega (arith, n))
+chain_two s t u (a ∷ b ∷ []) d e x y n r q = (t, r, (u, q, refl))
+chain_two s t u (a ∷ b ∷ c ∷ ts) d e x y n r q = absurd (omega (arith, n))
+
 -- the same in one scope
 pub record AreResolved (s t : Scope) (old new : List Tree) : Type 0 where
   pub same : t ≡ s

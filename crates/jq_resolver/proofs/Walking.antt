@@ -1,5 +1,5 @@
 -- The waiting parts of the walk over the names of a program.
-use Rattle.std.proofs.Common.{◌≡◌, ◌∙◌, ◌+◌, ◌==◌, ℕ, suc, List, [], ◌∷◌, ◌++◌, Bool, true, false, if◌then◌else◌, length, map, Vec, String, string_bytes, Global, ap, sym, refl, arith, append_assoc}
+use Rattle.std.proofs.Common.{◌≡◌, ◌∙◌, ◌+◌, ◌==◌, ℕ, suc, List, [], ◌∷◌, ◌++◌, Bool, true, false, if◌then◌else◌, length, map, Box, Vec, String, string_bytes, Global, ap, sym, refl, arith, append_assoc}
 use Rattle.std.proofs.lemmas.List.{append-nil}
 use Rattle.std.proofs.lemmas.Bool.Decides.{nat_tests}
 use Rattle.std.specs.Str.{IsUtf8, chars}
@@ -13,6 +13,7 @@ use Rattle.jq_ast.specs.Bound.{bound, bound_pieces, bound_trees, function_at}
 use Rattle.jq_resolver.specs.private.BoundParts.{bound_as_pattern}
 use Rattle.jq_ast.specs.Named.{name_of}
 use Rattle.jq_tree.specs.Names.{to_function}
+use Rattle.jq_ast.specs.declared.names.Modify.{Modify}
 use Rattle.jq_ast.specs.declared.names.Name.{Name}
 use Rattle.jq_ast.specs.declared.tree.Entry.{Entry}
 use Rattle.jq_ast.specs.declared.tree.Piece.{Piece}
@@ -72,6 +73,10 @@ call_used x ts n =
 pub prelude_call_used : (x : Name) (ts : Vec Tree Global) (n : ℕ) → uses (bound (code.PreludeCall x ts) n) ≡ use_at (sort.Function (length ts.items)) x n ∷ uses_trees (bound_trees (map bound ts.items) n)
 prelude_call_used x ts n =
     ap uses (level.bound-PreludeCall x ts n) ∙ ap (λ k. (to_function (name_of x) k, function_at x (length ts.items) n) ∷ uses_trees (bound_trees (map bound ts.items) n)) (count_bound ts.items n)
+
+pub update_used : (m : Modify) (ts : Box (List Tree) Global) (n : ℕ) → uses (bound (code.Update m ts) n) ≡ use_at (sort.Function (length ts.value)) m.name n ∷ uses_trees (bound_trees (map bound ts.value) n)
+update_used m ts n =
+    ap uses (level.bound-Update m ts n) ∙ ap (λ k. (to_function (name_of m.name) k, function_at m.name (length ts.value) n) ∷ uses_trees (bound_trees (map bound ts.value) n)) (count_bound ts.value n)
 
 -- ---- the variable that no filter can name
 

@@ -32,7 +32,7 @@ pub(crate) fn refer_to_function(
 }
 
 pub(crate) fn refer_to_prelude(scope: &Scope, name: &mut Name, arity: usize) -> Result<(), NoMemory>
-    ensures same { OnOk result (name_of name.new ≡ name_of name.old) }
+    ensures same { name_of name.new ≡ name_of name.old }
     ensures bound { OnOk result (function_at name.new arity (length (bound_names scope.now)) ≡ prelude_binder (bound_names scope.now) (to_function (name_of name.old) arity)) }
 {
     name.referent = match scope.outermost(Kind::Function(arity), name.text.as_str()) {

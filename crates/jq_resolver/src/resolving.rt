@@ -1,8 +1,8 @@
 // Sets what all names of a tree refer to.
-ghost use Rattle.std.specs.Prelude.{◌≡◌, true, OnOk};
-ghost use Rattle.jq_ast.specs.Named.{named};
+ghost use Rattle.std.specs.Prelude.{◌≡◌, true, length, OnOk};
+ghost use Rattle.jq_ast.specs.Named.{name_of, named};
 ghost use Rattle.jq_resolver.specs.private.Forms.{is_binder, is_pair};
-ghost use Rattle.jq_resolver.specs.private.Resolved.{Chain, IsDefinitionResolved, IsEntryResolved, IsPartResolved, IsPatternResolved, IsPieceResolved, IsResolved};
+ghost use Rattle.jq_resolver.specs.private.Resolved.{Chain, IsDefinitionResolved, IsEntryResolved, IsInPrelude, IsPartResolved, IsPatternResolved, IsPieceResolved, IsResolved};
 ghost use Rattle.jq_resolver.specs.private.Scopes.{ResolvedIn, bound_names};
 
 use crate::bindings::Kind;
@@ -10,7 +10,7 @@ use crate::referents::{
     refer_to_format, refer_to_function, refer_to_label, refer_to_prelude, refer_to_variable,
 };
 use crate::scope::Scope;
-use jq_ast::{Entry, Function, Member, Name, Pattern, Piece, Tree};
+use jq_ast::{Entry, Function, Member, Modify, Name, Pattern, Piece, Tree};
 use jv_data::NoMemory;
 
 #[cycle(resolving)]
@@ -43,6 +43,10 @@ pub(crate) fn resolve_tree(scope: &mut Scope, tree: &mut Tree) -> Result<(), NoM
         Tree::Choice(test, holds, fails) => resolve_three(scope, test, holds, fails),
         Tree::Call(name, arguments) => resolve_call(scope, name, arguments),
         Tree::PreludeCall(name, arguments) => resolve_prelude_call(scope, name, arguments),
+        Tree::Update(modify, parts) => {
+            resolve_update(scope, modify, &mut **parts)?;
+            Ok(())
+        }
         Tree::Index(_, _, _)
         | Tree::Pipe(_, _)
         | Tree::Comma(_, _)
@@ -260,6 +264,24 @@ fn resolve_trees(scope: &mut Scope, trees: &mut Vec<Tree>) -> Result<(), NoMemor
     for i in 0..trees.len() {
         resolve_tree(scope, &mut trees[i])?;
     }
+    Ok(())
+}
+
+// The name and the parts of an update.
+#[cycle(resolving)]
+#[inline(never)]
+fn resolve_update(
+    scope: &mut Scope,
+    modify: &mut Modify,
+    parts: &mut [Tree; 2],
+) -> Result<(), NoMemory>
+    ensures same { OnOk result (name_of modify.new.name ≡ name_of modify.old.name) }
+    ensures bound { OnOk result (IsInPrelude (bound_names scope.old) (length parts.old) modify.old.name modify.new.name) }
+    ensures resolved { OnOk result (Chain IsResolved (bound_names scope.old) (bound_names scope.new) parts.old parts.new) }
+{
+    refer_to_prelude(scope, &mut modify.name, 2)?;
+    resolve_tree(scope, &mut parts[0])?;
+    resolve_tree(scope, &mut parts[1])?;
     Ok(())
 }
 

@@ -276,6 +276,7 @@ impl<'a> Uses<'a> {
             Tree::PreludeCall(name, arguments) => {
                 self.push_call(name, arguments.as_slice(), around)
             }
+            Tree::Update(modify, parts) => self.push_call(&modify.name, &**parts, around),
             Tree::Label(_, _)
             | Tree::BindAs(_, _, _)
             | Tree::Reduce(_, _, _, _)

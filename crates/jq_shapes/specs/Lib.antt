@@ -1,3 +1,2 @@
-pub mod Turn
 pub mod Names
 pub mod private

@@ -1,15 +1,14 @@
-// The smallest parts of these trees: names, variables and patterns of one variable.
+// The smallest parts of these trees: names, variables and the pattern `$v`.
 ghost use Rattle.std.specs.Prelude.{◌≡◌, IfSome, IsTrue, codes};
 ghost use Rattle.std.specs.Str.{chars};
 ghost use Rattle.jv_data.specs.Text.{text_of};
 ghost use Rattle.jq_ast.specs.Named.{name_of, named, named_as_pattern};
 ghost use Rattle.jq_tree.specs.Tree as form;
 ghost use Rattle.jq_shapes.specs.private.Shapes.{HasName};
-ghost use Rattle.jq_shapes.specs.Turn as shape;
 
 use jq_ast::{Name, Pattern, Tree};
 
-pub(crate) fn is_text(found: &String, text: &str) -> bool
+fn is_text(found: &String, text: &str) -> bool
     ensures { IsTrue result → text_of found.now ≡ chars text.now }
 {
     found.as_str() == text
@@ -37,23 +36,8 @@ pub(crate) fn in_variable<'a>(tree: &'a Tree, text: &str) -> Option<&'a Name>
     }
 }
 
-pub(crate) fn is_variable(tree: &Tree, text: &str) -> bool
-    ensures { IsTrue result → named tree.now ≡ form.variable (chars text.now) }
-{
-    in_variable(tree, text).is_some()
-}
-
-pub(crate) fn is_identity(tree: &Tree) -> bool
-    ensures { IsTrue result → named tree.now ≡ form.identity }
-{
-    match tree {
-        Tree::Identity => true,
-        _ => false,
-    }
-}
-
-/// Whether a pattern is a variable of this name.
-pub(crate) fn is_whole(pattern: &Pattern, text: &str) -> bool
+// Whether a pattern is a variable of this name.
+fn is_whole(pattern: &Pattern, text: &str) -> bool
     ensures { IsTrue result → named_as_pattern pattern.now ≡ form.whole (chars text.now) }
 {
     match pattern {
@@ -68,18 +52,4 @@ pub fn is_part_pattern(pattern: &Pattern) -> bool
     ensures { IsTrue result → named_as_pattern pattern.now ≡ form.whole (codes "v") }
 {
     is_whole(pattern, "v")
-}
-
-/// Whether a pattern is `[$x, $d]`.
-#[tactic(auto, unfolding(crate::proofs::Reading::reading))]
-pub(crate) fn is_pair(pattern: &Pattern) -> bool
-    ensures { IsTrue result → named_as_pattern pattern.now ≡ shape.pair }
-{
-    match pattern {
-        Pattern::Items(parts) => match parts.as_slice() {
-            [first, second] => is_whole(first, "x") && is_whole(second, "d"),
-            _ => false,
-        },
-        _ => false,
-    }
 }

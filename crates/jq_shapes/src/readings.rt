@@ -1,7 +1,6 @@
 // Filters that do not change their input, and values that are cheap to copy. This only decides how a
 // filter is run: no contract depends on it.
-use crate::leaves::is_identity;
-use jq_ast::{Operator, Pattern, Tree};
+use jq_ast::{Operator, Tree};
 use jv_data::Val;
 
 // A string of at most this many bytes is cheap to copy.
@@ -53,14 +52,6 @@ fn is_over_all(name: &str) -> bool {
     )
 }
 
-/// Whether a pattern is `[P, ..]`.
-pub fn is_items(pattern: &Pattern) -> bool {
-    match pattern {
-        Pattern::Items(_) => true,
-        _ => false,
-    }
-}
-
 fn makes_larger(operator: Operator) -> bool {
     match operator {
         Operator::Plus => true,
@@ -86,6 +77,13 @@ pub fn pays_for_copy(input: &Val, values: &[Val]) -> bool {
             size_along(input, path.as_slice()) <= most
         }
         [] => true,
+        _ => false,
+    }
+}
+
+fn is_identity(tree: &Tree) -> bool {
+    match tree {
+        Tree::Identity => true,
         _ => false,
     }
 }

@@ -31,12 +31,3 @@ first-same (x ∷ xs) f s = refl
 
 pub first-then : (r s q : Run Item) → first_alone r ≡ q → first_alone (then_run r s) ≡ first_alone (then_run q s)
 first-then r s q h = first-same r.items r.ending s ∙ ap (λ (z : Run Item). first_alone (then_run z s)) h
-
--- after an output that ends what follows it no other one counts
-bind-same : {B : Type 0} (xs : List Item) (f : Ending) (g : Item → Run B) → ((x : Item) (q : Run B) → then_run (g x) q ≡ g x)
-    → bind (record { items = xs; ending = f }) g ≡ bind (first_alone (record { items = xs; ending = f })) g
-bind-same [] f g h = refl
-bind-same (x ∷ xs) f g h = h x (bind_items xs f g) ∙ sym (h x (ended Done))
-
-pub bind-first : {B : Type 0} (r q : Run Item) (g : Item → Run B) → ((x : Item) (q : Run B) → then_run (g x) q ≡ g x) → first_alone r ≡ q → bind r g ≡ bind q g
-bind-first r q g h e = bind-same r.items r.ending g h ∙ ap (λ (z : Run Item). bind z g) e

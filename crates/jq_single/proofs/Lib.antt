@@ -4,11 +4,8 @@ pub mod GivenArguments
 pub mod Gathered
 pub mod Folded
 pub mod Located
-pub mod Views
 pub mod FirstOutputs
-pub mod TurnForms
-pub mod TurnRuns
-pub mod Outcomes
-pub mod Updated
+pub mod Sets
+pub mod UpdateTurns
 pub mod Passed
 pub mod Compared

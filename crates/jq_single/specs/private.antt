@@ -6,6 +6,4 @@ pub mod FirstOutputs
 pub mod Natives
 pub mod Making
 pub mod Gathering
-pub mod Around
-pub mod States
-pub mod UpdateTurns
+pub mod Updates

@@ -15,7 +15,7 @@ use crate::scopes::{Outside, Scope};
 use crate::stops::Stop;
 use jq_ast::{Function, Operator, Pattern, Tree};
 use jq_natives::truth;
-use jq_shapes::{goes_over_all, is_cheap, is_items, update_in};
+use jq_shapes::{goes_over_all, is_cheap};
 use jq_state::environments::Nodes;
 use jv_data::Val;
 use std::alloc::Global;
@@ -81,7 +81,6 @@ impl<'s> Context<'s> {
             Tree::Choice(condition, holds, fails) => {
                 self.change_choice(condition, holds, fails, value)
             }
-            Tree::BindAs(_, pattern, _) if is_items(pattern) => self.change_turn(tree, value),
             Tree::BindAs(source, pattern, body) => {
                 self.change_binding(source, pattern, body, value)
             }
@@ -90,6 +89,7 @@ impl<'s> Context<'s> {
             Tree::PreludeCall(name, arguments) => {
                 self.change_prelude_call(name, arguments, value)
             }
+            Tree::Update(modify, parts) => self.change_update(modify, &**parts, value),
             Tree::Reduce(source, pattern, start, update) => {
                 self.change_reduce(source, pattern, start, update, value)
             }
@@ -124,9 +124,6 @@ impl<'s> Context<'s> {
     {
         if self.kept {
             return self.change_kept(tree, value);
-        }
-        if let Some(update) = update_in(tree) {
-            return self.change_update(tree, update, value);
         }
         if goes_over_all(first) || is_cheap(value) {
             self.change_kept(tree, value)

@@ -1,5 +1,5 @@
 // What a name is bound to in a scope.
-ghost use Rattle.std.specs.Prelude.{◌≡◌, IfOk};
+ghost use Rattle.std.specs.Prelude.{◌≡◌, IfOk, IsTrue};
 ghost use Rattle.jv_data.specs.Value.{Value};
 ghost use Rattle.jv_data.specs.View.{view};
 ghost use Rattle.jq_ast.specs.Named.{name_of};
@@ -8,10 +8,13 @@ ghost use Rattle.jq_meaning.specs.Runs.{Run};
 ghost use Rattle.jq_state.specs.Environments.{count_of, envs_of};
 ghost use Rattle.jq_single.specs.private.Scopes.{scope_env};
 ghost use Rattle.jq_single.specs.private.Finds.{FindsBound, FindsInPrelude, found_in};
+ghost use Rattle.jq_state.specs.Nodes.{env_at};
+ghost use Rattle.jq_meaning.specs.updates.Known.{HasModify};
 ghost use Rattle.jq_operations.specs.Callees.{CalleeFits, callee_in};
 
 use crate::scopes::{Outside, Scope};
 use jq_ast::{Function, Name, Tree};
+use jq_meaning::updates::the_preludes_update_stays;
 use jq_operations::{Callee, find_callee, find_in_prelude, find_value};
 use jq_state::environments::Nodes;
 use jq_state::names::{is_function, is_text};
@@ -114,6 +117,25 @@ fn of_the_run<'s>(nodes: &'s Nodes<'s>, callee: Callee<'s>) -> Found<'s>
         }
         Callee::NoCallee => Found::Nothing,
     }
+}
+
+/// Whether it is known of a scope that `f |= g` calls the prelude's `_modify` in it.
+pub(crate) fn has_modify(scope: &Scope<'_>) -> bool
+    ensures { IsTrue result → (inputs : Run Value) → ∥ HasModify (scope_env inputs scope.now) ∥₁ }
+{
+    the_preludes_update_stays();
+    match scope {
+        Scope::Run(outside) => modify_of_the_run(outside),
+        Scope::Value(outer, _, _) => has_modify(outer),
+        Scope::Function(outer, _) => has_modify(outer),
+        Scope::Call(own, _, _, _) => has_modify(own),
+    }
+}
+
+fn modify_of_the_run(outside: &Outside<'_>) -> bool
+    ensures { IsTrue result → (inputs : Run Value) → ∥ HasModify (env_at (envs_of inputs outside.now.nodes.now) outside.now.env) ∥₁ }
+{
+    jq_operations::has_modify(outside.nodes, outside.env)
 }
 
 /// The value of the innermost variable of this name, or null if there is none.

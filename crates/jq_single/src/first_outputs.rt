@@ -3,40 +3,17 @@ ghost use Rattle.jv_data.specs.View.{view};
 ghost use Rattle.jq_ast.specs.Named.{named};
 ghost use Rattle.jq_tree.specs.Tree as form;
 ghost use Rattle.jq_single.specs.Single.{Keeps};
-ghost use Rattle.jq_single.specs.private.FirstOutputs.{ChangesToFirst, ChangesToFirstBelow, FirstOf};
+ghost use Rattle.jq_single.specs.private.FirstOutputs.{ChangesToFirst, FirstOf};
 
 use crate::contexts::Context;
-use crate::scopes::Scope;
 use crate::stops::Stop;
 use jq_ast::Tree;
 use jv_data::Val;
 
 impl<'s> Context<'s> {
-    /// Runs a body in its own scope, with a call depth that is smaller by one, and replaces the value by its first output.
+    /// Replaces the value by the first output of a filter.
     #[cycle(single)]
-    pub(crate) fn change_to_first(
-        &self,
-        body: &'s Tree,
-        own: &Scope<'s>,
-        value: &mut Val,
-    ) -> Result<(), Stop>
-        ensures runs { ChangesToFirstBelow self.now own.now (named body.now) (view value.old) (view value.new) result }
-        ensures keeps { Keeps result (view value.old) (view value.new) }
-    {
-        if self.depth == 0 {
-            return Err(Stop::Unknown);
-        }
-        let inside = Context {
-            scope: &*own,
-            depth: self.depth - 1,
-            ..*self
-        };
-        inside.change_first(&*body, value)
-    }
-
-    // The first output of a filter in this scope.
-    #[cycle(single)]
-    fn change_first(&self, tree: &'s Tree, value: &mut Val) -> Result<(), Stop>
+    pub(crate) fn change_first(&self, tree: &'s Tree, value: &mut Val) -> Result<(), Stop>
         ensures runs { ChangesToFirst self.now (named tree.now) (view value.old) (view value.new) result }
         ensures keeps { Keeps result (view value.old) (view value.new) }
     {

@@ -18,7 +18,6 @@ use crate::stops::Stop;
 use jq_ast::{Function, Name, Pattern, Tree};
 use jq_natives::truth;
 use jq_operations::{Builtin, builtin_named};
-use jq_shapes::is_update;
 use jq_state::items::Item;
 use jv_data::Val;
 
@@ -67,13 +66,7 @@ impl<'s> Context<'s> {
             Tree::Index(target, key, guarded) if item.path.is_present() => {
                 self.gather_index(target, key, *guarded, item, rest, into)
             }
-            Tree::Pipe(first, second) => {
-                if is_update(tree) {
-                    self.gather_one(tree, item, rest, into)
-                } else {
-                    self.gather_pipe(first, second, item, rest, into)
-                }
-            }
+            Tree::Pipe(first, second) => self.gather_pipe(first, second, item, rest, into),
             Tree::Comma(first, second) => self.gather_comma(first, second, item, rest, into),
             Tree::Choice(condition, holds, fails) => {
                 self.gather_choice(condition, holds, fails, item, rest, into)

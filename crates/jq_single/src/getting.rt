@@ -10,7 +10,6 @@ use crate::stops::Stop;
 use crate::strings::get_format;
 use jq_ast::Tree;
 use jq_operations::literal;
-use jq_shapes::update_in;
 use jv_data::Val;
 
 impl<'s> Context<'s> {
@@ -58,10 +57,7 @@ impl<'s> Context<'s> {
             Tree::Field(target, key, guarded) => self.field(target, key, *guarded, value),
             Tree::Index(target, key, guarded) => self.index(target, key, *guarded, value),
             Tree::Slice(target, from, to, guarded) => self.slice(target, from, to, *guarded, value),
-            Tree::Pipe(first, second) => match update_in(tree) {
-                Some(update) => self.update(tree, update, value),
-                None => self.pipe(first, second, value),
-            },
+            Tree::Pipe(first, second) => self.pipe(first, second, value),
             Tree::Binary(operator, left, right) => self.binary(*operator, left, right, value),
             Tree::And(left, right) => self.and(left, right, value),
             Tree::Or(left, right) => self.or(left, right, value),
@@ -78,6 +74,7 @@ impl<'s> Context<'s> {
             Tree::BindAs(_, _, _) => self.get_changed(tree, value),
             Tree::Define(_, _) => self.get_changed(tree, value),
             Tree::PreludeCall(_, _) => self.get_changed(tree, value),
+            Tree::Update(_, _) => self.get_changed(tree, value),
             _ => Err(Stop::Unknown),
         }
     }

@@ -113,8 +113,8 @@ fn only_of(values: Vec<Val>) -> Option<Val>
     }
 }
 
-// A value with an empty path.
-fn start_at(alloc: Global, value: &Val) -> Result<Item, NoMemory>
+/// A value with an empty path.
+pub(crate) fn start_at(alloc: Global, value: &Val) -> Result<Item, NoMemory>
     ensures { IfOk result (λ x. item_of x ≡ located (view value.now) []) }
 {
     let value = value.copy()?;

@@ -3,6 +3,7 @@ pub mod Nodes
 pub mod Buckets
 pub mod Chained
 pub mod Listed
+pub mod Modify
 pub mod Builds
 pub mod Environments
 pub mod Steps

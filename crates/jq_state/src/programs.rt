@@ -3,6 +3,8 @@ ghost use Rattle.std.proofs.Props.{props};
 ghost use Rattle.std.specs.Prelude.{◌≡◌, ◌-◌, ◌^◌, ◌≤◌, length, map};
 ghost use Rattle.jq_state.specs.Buckets.{bucket_of};
 ghost use Rattle.jq_state.specs.Chained.{Latest, Earlier};
+ghost use Rattle.jq_state.specs.Modify.{KnowsModify};
+ghost use Rattle.jq_state.specs.Nodes.{program_binding};
 
 use crate::buckets::{BUCKETS, bucket_of};
 use crate::environments::ProgramBinding;
@@ -11,27 +13,41 @@ use jv_data::NoMemory;
 use std::alloc::Global;
 
 /// The program's bindings, from the outermost to the innermost. For each bucket `latest` has one more than the index of its last
-/// binding, and for each index `earlier` has the same for the bindings before it in its bucket; 0 means none.
+/// binding, and for each index `earlier` has the same for the bindings before it in its bucket; 0 means none. `modify` is the number of
+/// bindings up to the prelude's `_modify`, if this is known.
 #[derive(Drop)]
 pub struct ProgramBindings {
     items: Vec<ProgramBinding>,
     latest: Vec<u32>,
     earlier: Vec<u32>,
+    modify: Option<u32>,
     ghost small: { length items.items ≤ 2 ^ 32 - 1 },
     ghost buckets: { length latest.items ≡ 128 },
     ghost places: { length earlier.items ≡ length items.items },
     ghost chains: { Latest (map bucket_of items.items) (length items.items) latest.items } by { Prim.hlevel props },
     ghost links: { Earlier (map bucket_of items.items) earlier.items } by { Prim.hlevel props },
+    ghost known: { ∥ KnowsModify (map program_binding items.items) modify ∥₁ },
 }
 
 impl ProgramBindings {
     ghost use Rattle.std.specs.Prelude.{IfOk, MatchOption};
-    ghost use Rattle.jq_state.specs.Nodes.{program_binding};
     ghost use Rattle.jq_state.specs.Listed.{bindings_in, items_in, is_sought, IsFirstOf, IsLastOf, NoneFrom};
     ghost use Rattle.jq_state.specs.private.Placed.{IsAt, IsNotAt};
 
     /// Bindings from the outermost to the innermost. Out of memory also if there are more than 2^32 - 1.
     pub fn new(alloc: Global, items: Vec<ProgramBinding>) -> Result<ProgramBindings, NoMemory>
+        ensures { IfOk result (λ p. items_in p ≡ items.items) }
+    {
+        ProgramBindings::with_modify(alloc, items, None)
+    }
+
+    /// The same where so many of the bindings end with the prelude's `_modify`.
+    pub fn with_modify(
+        alloc: Global,
+        items: Vec<ProgramBinding>,
+        modify: Option<u32>,
+    ) -> Result<ProgramBindings, NoMemory>
+        requires { KnowsModify (map program_binding items.items) modify }
         ensures { IfOk result (λ p. items_in p ≡ items.items) }
     {
         if items.len() > 4_294_967_295 {
@@ -48,7 +64,16 @@ impl ProgramBindings {
             items,
             latest,
             earlier,
+            modify,
         })
+    }
+
+    /// The number of bindings up to the prelude's `_modify`, if this is known.
+    #[inline(always)]
+    pub fn modify(&self) -> Option<u32>
+        ensures { ∥ KnowsModify (bindings_in self.now) result ∥₁ }
+    {
+        self.modify
     }
 
     /// The number of bindings.

@@ -9,7 +9,7 @@ use Rattle.jq_tree.specs.declared.prelude.TheConstants.{PRELUDE}
 use Rattle.jq_parser.specs.laws.OneTree as parser
 use Rattle.jq_parser.specs.laws.Parsed.{parsed, ParsedIsTheTree}
 use Rattle.jq_syntax.specs.laws.Computed.{steps, prelude_tokens, turns, prelude}
-use Rattle.jq_syntax.proofs.Computing.{computing_prelude}
+use Rattle.jq_syntax.proofs.shared.Computing.{computing_prelude}
 use Rattle.jq_syntax.specs.laws.OfThePrelude.{OneTree, StandsBefore, OnlyDefinitions, AllNamesBound, CallsNoInputs, DefinesNoInputs}
 use Rattle.jq_syntax.proofs.Ending.{ends_in_identity, ends_in_semicolon, kept, stands_before}
 

@@ -10,7 +10,7 @@ use Rattle.jq_inputs.specs.private.Hidden.{nothing_hidden}
 use Rattle.jq_inputs.specs.private.Halts.{halts_in}
 use Rattle.jq_inputs.proofs.shared.Halting.{found_exactly}
 use Rattle.jq_syntax.specs.laws.Computed.{prelude}
-use Rattle.jq_syntax.proofs.Computing.{computing_prelude}
+use Rattle.jq_syntax.proofs.shared.Computing.{computing_prelude}
 use Rattle.jq_syntax.specs.laws.OfThePrelude.{DefinitionsCallNoHalt, OnlyHaltErrorHalts}
 
 abbrev definitions_call_no_halt : Tree → Bool

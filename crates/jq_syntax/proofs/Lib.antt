@@ -1,4 +1,4 @@
-pub mod Computing
+pub mod shared
 pub mod Ending
 pub mod Acceptance
 pub mod Places

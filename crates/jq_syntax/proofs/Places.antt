@@ -9,7 +9,7 @@ use Rattle.jq_tree.specs.BoundTree.{bound_at}
 use Rattle.jq_tree.specs.Binders.{prelude_binder}
 use Rattle.jq_tree.proofs.shared.Binding.{bound_left, bound_right, only_left}
 use Rattle.jq_syntax.specs.laws.Computed.{prelude}
-use Rattle.jq_syntax.proofs.Computing.{computing_prelude}
+use Rattle.jq_syntax.proofs.shared.Computing.{computing_prelude}
 use Rattle.jq_syntax.specs.laws.OfThePrelude.{after_definitions, after_prelude, IsThePreludes, RecurseIsThePreludes, AssignIsThePreludes, ModifyIsThePreludes}
 
 no_variable : (n : Name) (arity : ℕ) (variables : List Name) → is_bound (to_function n arity) (variables_of variables) ≡ false

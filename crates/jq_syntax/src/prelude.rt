@@ -87,5 +87,6 @@ fn take_definitions(
         Tree::Foreach(_a, _b, _c, _d, _e) => Ok(()),
         Tree::Call(_a, _b) => Ok(()),
         Tree::PreludeCall(_a, _b) => Ok(()),
+        Tree::Update(_a, _b) => Ok(()),
     }
 }

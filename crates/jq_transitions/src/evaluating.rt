@@ -122,5 +122,8 @@ pub fn enter<'p>(
         Tree::PreludeCall(name, arguments) => {
             enter_prelude_call(state, name, arguments.as_slice(), scope, input)
         }
+        Tree::Update(modify, parts) => {
+            enter_prelude_call(state, &modify.name, &**parts, scope, input)
+        }
     }
 }

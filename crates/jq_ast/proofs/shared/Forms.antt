@@ -5,6 +5,7 @@ use Rattle.jq_tree.specs.Tree as tree
 use Rattle.jq_ast.specs.Leaves.{key_of, operator_of}
 use Rattle.jq_ast.specs.Named.{named, named_as_part, named_as_pattern, name_of, pieces_of, entry_of, named_entry, named_piece, named_member, named_pattern, named_tree}
 use Rattle.jq_ast.specs.declared.leaves.Key.{Key}
+use Rattle.jq_ast.specs.declared.names.Modify.{Modify}
 use Rattle.jq_ast.specs.declared.names.Name.{Name}
 use Rattle.jq_ast.specs.declared.operators.Operator.{Operator}
 use Rattle.jq_ast.specs.declared.tree.Entry.{Entry}
@@ -102,6 +103,9 @@ named-Call x ts = ap named (sym (code.rolls-Call x ts)) ∙ fold-roll-Tree tree.
 
 pub named-PreludeCall : (x : Name) (ts : Vec Tree Global) → named (code.PreludeCall x ts) ≡ tree.prelude_call (name_of x) (tree.trees_of (map named ts.items))
 named-PreludeCall x ts = ap named (sym (code.rolls-PreludeCall x ts)) ∙ fold-roll-Tree tree.Part tree.Pattern tree.Tree named_member named_pattern named_tree (Tree-F.PreludeCall x ts)
+
+pub named-Update : (m : Modify) (ts : Box (List Tree) Global) → named (code.Update m ts) ≡ tree.prelude_call (name_of m.name) (tree.trees_of (map named ts.value))
+named-Update m ts = ap named (sym (code.rolls-Update m ts)) ∙ fold-roll-Tree tree.Part tree.Pattern tree.Tree named_member named_pattern named_tree (Tree-F.Update m ts)
 
 -- ---- patterns
 

@@ -3,12 +3,13 @@
 use Rattle.std.specs.Prelude.{◌≡◌, ℕ, List, [], ◌∷◌, length, map}
 use Rattle.jv_data.specs.Text.{text_of}
 use Rattle.jq_tree.specs.BoundTree as form
-use Rattle.jq_tree.specs.Binders.{bound_in, entry_in, pattern_in, part_in}
+use Rattle.jq_tree.specs.Binders.{bound_in, entry_in, pattern_in, part_in, prelude_binder}
 use Rattle.jq_tree.specs.Names.{Scope, to_function, with_parameters, with_pattern, with_part}
 use Rattle.jq_ast.specs.Leaves.{key_of}
-use Rattle.jq_ast.specs.Named.{named, named_as_part, named_as_pattern, named_entry}
-use Rattle.jq_ast.specs.Bound.{bound}
+use Rattle.jq_ast.specs.Named.{name_of, named, named_as_part, named_as_pattern, named_entry}
+use Rattle.jq_ast.specs.Bound.{bound, function_at}
 use Rattle.jq_resolver.specs.private.BoundParts.{bound_as_part, bound_as_pattern}
+use Rattle.jq_ast.specs.declared.names.Name.{Name}
 use Rattle.jq_ast.specs.declared.tree.Entry.{Entry}
 use Rattle.jq_ast.specs.declared.tree.Entry.TheVariants as entry
 use Rattle.jq_ast.specs.declared.tree.Function.{Function}
@@ -68,3 +69,7 @@ Chain Does s t [] [] = t ≡ s
 Chain Does s t (x ∷ xs) (y ∷ ys) = (u : Scope) × Does s u x y × Chain Does u t xs ys
 Chain Does s t [] (y ∷ ys) = ⊥
 Chain Does s t (x ∷ xs) [] = ⊥
+
+-- The name of a function with this arity gets the binder that the prelude has for it.
+abbrev pub IsInPrelude : Scope → (arity : ℕ) → (old new : Name) → Type 0
+IsInPrelude s arity old new = function_at new arity (length s) ≡ prelude_binder s (to_function (name_of old) arity)

@@ -1,15 +1,12 @@
 -- The names in parts of these trees.
 use Rattle.std.specs.Prelude.{◌≡◌, ℕ, List, codes}
-use Rattle.jq_ast.specs.Named.{name_of, named}
+use Rattle.jq_ast.specs.Named.{name_of}
 use Rattle.jq_ast.specs.declared.names.Name.{Name}
-use Rattle.jq_tree.specs.Tree.{Tree, reduce, whole}
-use Rattle.jq_shapes.specs.Names.{HasTurn}
-use Rattle.jq_shapes.specs.Turn.{longer, set_part, start, turn}
+use Rattle.jq_tree.specs.Tree.{Tree}
+use Rattle.jq_meaning.specs.updates.Body.{longer, set_part}
 use Rattle.jq_shapes.specs.declared.ends.Longer.{Longer}
 use Rattle.jq_shapes.specs.declared.ends.Setter.{Setter}
 use Rattle.jq_shapes.specs.declared.ends.WithPart.{WithPart}
-use Rattle.jq_shapes.specs.declared.turns.Source.{Source}
-use Rattle.jq_shapes.specs.declared.updates.Fold.{Fold}
 
 -- The tree is this one, and the text of the name in it is this.
 pub record HasName (t expected : Tree) (n : Name) (text : List ℕ) : Type 0 where
@@ -32,13 +29,3 @@ pub record HasLonger (t : Tree) (n : Longer) : Type 0 where
   pub same : t ≡ longer
   pub deleted : name_of n.deleted.now ≡ codes "d"
   pub path : name_of n.path.now ≡ codes "p"
-
-pub record HasSource (t expected : Tree) (s : Source) : Type 0 where
-  pub same : t ≡ expected
-  pub getter : name_of s.getter.now ≡ codes "getpath"
-  pub path : name_of s.path.now ≡ codes "p"
-  pub filter : name_of s.filter.now ≡ codes "u"
-
-pub record HasFold (t : Tree) (f : Fold) : Type 0 where
-  pub same : t ≡ reduce (named f.source.now) (whole (codes "p")) start turn
-  pub names : HasTurn turn turn f.turn

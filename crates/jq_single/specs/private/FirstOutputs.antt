@@ -5,9 +5,8 @@ use Rattle.jv_data.specs.declared.values.Val.{Val}
 use Rattle.jq_tree.specs.Tree.{Tree}
 use Rattle.jq_meaning.specs.Runs.{Item, plain, Run, ended, one}
 use Rattle.jq_single.specs.Single.{Changed}
-use Rattle.jq_single.specs.private.Parts.{Answers, body_in, run}
+use Rattle.jq_single.specs.private.Parts.{Answers, run}
 use Rattle.jq_single.specs.declared.contexts.Context.{Context}
-use Rattle.jq_single.specs.declared.scopes.Scope.{Scope}
 use Rattle.jq_single.specs.declared.stops.Stop.{Stop}
 
 -- The first output of a run alone. A run without output is its ending.
@@ -21,7 +20,3 @@ FirstOf p t v result = (inputs : Run Value) (level : ℕ) → Answers result (fi
 -- The same where the output replaces the value.
 abbrev pub ChangesToFirst : {A : Type 0} → Context → Tree → (before later : Value) → Result A Stop → Type 0
 ChangesToFirst p t v w result = (inputs : Run Value) (level : ℕ) → Changed result w (first_alone (run p inputs level t (plain v)))
-
--- The same for a body in its own scope, with a call depth that is smaller by one.
-abbrev pub ChangesToFirstBelow : {A : Type 0} → Context → Scope → Tree → (before later : Value) → Result A Stop → Type 0
-ChangesToFirstBelow p own t v w result = (inputs : Run Value) (level : ℕ) → Changed result w (first_alone (body_in own p.depth inputs level t (plain v)))

@@ -1,6 +1,6 @@
 use Rattle.std.proofs.Common.{rules}
 use Rattle.jq_ast.proofs.shared.Forms.{named-Object}
-use Rattle.jq_inputs.proofs.Levels.{halts-Text, halts-Call, halts-PreludeCall}
+use Rattle.jq_inputs.proofs.Levels.{halts-Text, halts-Call, halts-PreludeCall, halts-Update}
 use Rattle.jq_inputs.proofs.halting.+halting.Goals as goal
 
 pub halts-returns-in-Text : goal.halts-returns-in-Text
@@ -20,3 +20,6 @@ halts-returns-then-is_halt-2 t c = rw (c.in-PreludeCall.is, halts-PreludeCall c.
 
 pub halts-returns-else-is_halt-2 : goal.halts-returns-else-is_halt-2
 halts-returns-else-is_halt-2 t c = rw (c.in-PreludeCall.is, halts-PreludeCall c.args.hidden c.in-PreludeCall.name c.in-PreludeCall.arguments) (search rules)
+
+pub halts-returns-in-Update : goal.halts-returns-in-Update
+halts-returns-in-Update t c = rw (c.in-Update.is, halts-Update c.args.hidden c.in-Update.field-0 c.in-Update.parts) (search rules)

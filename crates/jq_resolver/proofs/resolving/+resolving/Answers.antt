@@ -4,8 +4,8 @@ use Rattle.jq_ast.specs.declared.tree.Pattern as Y
 use Rattle.jv_data.proofs.shared.Results.{on_ok_map}
 use Rattle.jq_resolver.proofs.Arms.{on_ok_three, of_part, of_entry, entry_value, entry_both, entry_own, arm_Field, arm_Iterate, arm_Negation, arm_Array, arm_Label, arm_BindAs, arm_Reduce, arm_Foreach, arm_Define, arm_Keyed}
 use Rattle.jq_resolver.proofs.Parts.{two_resolved, three_resolved, in_Index, in_Pipe, in_Comma, in_Binary, in_And, in_Or, in_Alternative, in_TryCatch, in_Slice, in_Choice}
-use Rattle.jq_resolver.proofs.Forms.{in_Text, in_Object, in_Call, in_PreludeCall, in_Items, in_Members, definition_resolved}
-use Rattle.jq_resolver.proofs.Lists.{chain_step, unvisited_step}
+use Rattle.jq_resolver.proofs.Forms.{in_Text, in_Object, in_Call, in_PreludeCall, in_Update, in_Items, in_Members, definition_resolved}
+use Rattle.jq_resolver.proofs.Lists.{chain_step, chain_two, unvisited_step}
 use Rattle.jq_resolver.specs.private.Resolved.{IsResolved, IsPieceResolved, IsEntryResolved, IsPatternResolved, IsPartResolved}
 use Rattle.jq_resolver.specs.private.Scopes.{bound_names}
 use Rattle.jq_resolver.proofs.resolving.+resolving.Goals as goal
@@ -99,6 +99,13 @@ resolve_tree-returns-in_ok-resolve_pieces-in-Text t c = rw c.in-Text.is (in_Text
 pub resolve_tree-returns-in_ok-resolve_entries-in-Object : goal.resolve_tree-returns-in_ok-resolve_entries-in-Object
 unfolding X.out-Tree denote.Hole.Carrier.out
 resolve_tree-returns-in_ok-resolve_entries-in-Object t c = rw c.in-Object.is (in_Object (bound_names c.args.scope.now) (bound_names c.resolve_entries.new.scope) c.in-Object.entries c.resolve_entries.new.entries (search rules))
+
+pub resolve_tree-returns-in_ok-resolve_update-in-Update : goal.resolve_tree-returns-in_ok-resolve_update-in-Update
+unfolding X.out-Tree denote.Hole.Carrier.out
+resolve_tree-returns-in_ok-resolve_update-in-Update t c = rw c.in-Update.is (in_Update _ _ c.in-Update.modify _ c.in-Update.parts _ (search rules) (search rules) (search rules))
+
+pub resolve_update-returns-clause-resolved : goal.resolve_update-returns-clause-resolved
+resolve_update-returns-clause-resolved t c = chain_two _ _ _ c.args.parts.now _ _ _ _ (search rules) c.in_ok-resolve_tree.ensures c.in_ok-resolve_tree-2.ensures
 
 pub resolve_two-returns : goal.resolve_two-returns
 resolve_two-returns t c =

@@ -46,6 +46,9 @@ decreases-resolve_prelude_call l = 5 * goal.size-resolve_prelude_call l + 3
 abbrev pub decreases-resolve_trees : goal.decreases-resolve_trees
 decreases-resolve_trees l = 5 * goal.size-resolve_trees l + 2
 
+abbrev pub decreases-resolve_update : goal.decreases-resolve_update
+decreases-resolve_update l = 5 * goal.size-resolve_update l + 2
+
 abbrev pub decreases-resolve_pieces : goal.decreases-resolve_pieces
 decreases-resolve_pieces l = 5 * goal.size-resolve_pieces l + 2
 

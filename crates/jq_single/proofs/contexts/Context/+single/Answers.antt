@@ -1,5 +1,6 @@
 use Rattle.std.proofs.Common.{rules, to_z, of_z, w64, Ok, Err, [], ◌∷◌, List, ℕ, suc, codes, ◌≡◌, ◌∙◌, ◌-◌, arith, length, map, true, false, refl, sym, ap, subst}
 use Rattle.std.proofs.lemmas.Int.{to_z-of_z}
+use Rattle.std.proofs.Math.Logic.{∥∥₁_elim}
 use Rattle.std.specs.Str.{chars}
 use Rattle.jv_data.specs.Held.{members_in}
 use Rattle.jv_data.proofs.shared.Levels.{view-Bool, view-List}
@@ -11,7 +12,8 @@ use Rattle.jv_data.specs.View.{view}
 use Rattle.jv_data.specs.declared.values.Val.{Val}
 use Rattle.jq_ast.specs.Leaves.{key_of, operator_of}
 use Rattle.jq_ast.specs.Named.{name_of, named, named_as_pattern, named_entry}
-use Rattle.jq_ast.proofs.shared.Forms.{named-Call, named-PreludeCall, named-Object, named-Text, named-Whole}
+use Rattle.jq_ast.proofs.shared.Forms.{named-Call, named-PreludeCall, named-Update, named-Object, named-Text, named-Whole}
+use Rattle.jq_tree.specs.Tree as form
 use Rattle.jq_tree.specs.Tree.{Entry, Tree, bind_as, more_entries, object, reduce, text, trees_of, whole}
 use Rattle.jq_operations.specs.Language.{meaning_of}
 use Rattle.jq_meaning.specs.machine.Operations.{path_item}
@@ -24,7 +26,7 @@ use Rattle.jq_natives.specs.PathNatives.{getpath_native_of}
 use Rattle.jq_meaning.specs.Folds.{next_state, reduced}
 use Rattle.jq_meaning.specs.Meaning.{arguments_with, below, bindings_with, meaning, pieces_with}
 use Rattle.jq_meaning.specs.Continuations.{on_source, on_state, on_target, on_key, on_start, on_end, on_entry, on_entry_key, on_back, on_inserted, format_of, on_left, on_right, negated, truth, on_conjunct, on_disjunct, on_test, on_error}
-use Rattle.jq_meaning.specs.Runs.{Run, Item, plain, located, as_value, value_in, none, one, fail, alternative, then_run, bind, catch, gathered}
+use Rattle.jq_meaning.specs.Runs.{Done, Run, Item, plain, located, as_value, value_in, none, one, fail, alternative, then_run, bind, catch, gathered}
 use Rattle.jq_single.specs.private.Scopes.{scope_env}
 use Rattle.jq_operations.specs.Outputs.{Inserts, outputs_of}
 use Rattle.jq_operations.specs.Pieces.{named_pieces}
@@ -34,21 +36,19 @@ use Rattle.jq_single.specs.private.Gathering.{Gathers, folded, given_of, made, n
 use Rattle.jq_state.specs.Items.{item_of}
 use Rattle.jq_state.proofs.shared.Items.{absent, value_of_item}
 use Rattle.jq_single.specs.private.Making.{entries_in}
-use Rattle.jq_single.specs.private.Around.{Around}
-use Rattle.jq_single.specs.private.States.{first_of, second_of}
-use Rattle.jq_shapes.specs.Turn as shape
-use Rattle.jq_single.specs.private.UpdateTurns.{PutsFirst, PutsSecond}
-use Rattle.jq_single.specs.private.UpdateTurns as updates
+use Rattle.jq_single.specs.private.Updates.{listed, part_run, path_run}
+use Rattle.jq_meaning.specs.laws.Updating.{turn_of, turns}
 use Rattle.jq_single.specs.private.FirstOutputs.{first_alone}
 use Rattle.jq_single.specs.private.Parts.{Answers, builtin_in, run}
 use Rattle.jq_single.specs.Single.{Changed, Ends}
 use Rattle.jq_single.proofs.Binding.{bind-known, ends-bind, ends-after, answers-bind, changed-bind, changed_holds, changed_fails, changed-stops, goes-changed, keeps-stops, leaves_same, stops, untold, and_goes, and_stops, or_goes, or_stops, truth_of, test_holds, test_fails, caught, with_variable, text-bind, text-stops}
 use Rattle.jq_single.specs.declared.rests.Rest.{Rest}
+use Rattle.jq_single.specs.declared.rests.Rest.TheVariants as rest
 use Rattle.jq_single.proofs.Gathered.{gathers-none, gathers-then, gathers-fail, gathers_all, gives_first, stops_first, stops-then, gathered_list, ends_gathered, bound_rest, picks_holds, picks_fails}
 use Rattle.jq_single.proofs.Folded.{fold_value, turned, fold_ends, single_fold}
 use Rattle.jq_single.proofs.FirstOutputs.{answers-first, changed-first, first-then}
-use Rattle.jq_single.proofs.Outcomes.{getpath_keys, setpath_keys, put_turn, keep_turn, raising_turn}
-use Rattle.jq_single.proofs.Updated.{finish-run, update_once, put_once, delete_once, raise_once}
+use Rattle.jq_single.proofs.Sets.{changed-prop}
+use Rattle.jq_single.proofs.UpdateTurns.{getpath_keys, known_paths, listed_more, modify_tree, turn_lists, turn_raises, turn_sets, two_calls_deep}
 use Rattle.jq_single.proofs.Located.{path_given, path_of_builtin, paths-rest}
 use Rattle.jq_single.proofs.Bodies.{body_runs, builtin_runs, closure_runs, function_runs, named-Identity, prelude_runs}
 use Rattle.jq_single.proofs.GivenArguments.{native_plain, two_chosen}
@@ -325,6 +325,12 @@ pub change_form-returns-in-PreludeCall-clause-runs : goal.change_form-returns-in
 change_form-returns-in-PreludeCall-clause-runs t c = λ inputs level.
     subst (λ (u : Tree). Changed c.change_prelude_call.result (view c.change_prelude_call.new.value) (run c.args.self.now inputs level u (plain (view c.args.value.now))))
     (sym (ap named c.in-PreludeCall.is ∙ named-PreludeCall c.in-PreludeCall.name c.in-PreludeCall.arguments)) (c.change_prelude_call.ensures.runs inputs level)
+
+pub change_form-returns-in-Update-clause-runs : goal.change_form-returns-in-Update-clause-runs
+change_form-returns-in-Update-clause-runs t c = λ inputs level.
+    let parts : c.in-Update.parts.value ≡ c.deref-in-Update.result.now = search rules in
+    subst (λ (u : Tree). Changed c.change_update.result (view c.change_update.new.value) (run c.args.self.now inputs level u (plain (view c.args.value.now))))
+    (sym (ap named c.in-Update.is ∙ named-Update c.in-Update.modify c.in-Update.parts ∙ ap (λ us. form.prelude_call (name_of c.in-Update.modify.name) (trees_of (map named us))) parts)) (c.change_update.ensures.runs inputs level)
 
 pub change_kept-returns-in-Err-clause-keeps : goal.change_kept-returns-in-Err-clause-keeps
 change_kept-returns-in-Err-clause-keeps t c = leaves_same c.in-Err.stop (view c.args.value.now)
@@ -1089,13 +1095,6 @@ turn-returns-in-Err t c = λ inputs level.
 
 -- ---- the first output
 
-pub change_to_first-returns-clause-runs : goal.change_to_first-returns-clause-runs
-change_to_first-returns-clause-runs t c = λ inputs level.
-    let depth = c.args.self.now.depth in
-    subst (λ (r : Run Item). Changed c.change_first.result (view c.change_first.new.value) (first_alone r))
-    (body_runs (scope_env inputs c.args.own.now) depth (depth - 1) level (named c.args.body.now) (plain (view c.args.value.now)) (omega arith))
-    (c.change_first.ensures.runs inputs level)
-
 pub change_first-returns-in_default-clause-runs : goal.change_first-returns-in_default-clause-runs
 change_first-returns-in_default-clause-runs t c = λ inputs level.
     changed-first c.change.result (view c.change.new.value) (run c.args.self.now inputs level (named c.args.tree.now) (plain (view c.args.value.now))) (c.change.ensures.runs inputs level)
@@ -1129,134 +1128,93 @@ first_of_two-returns-in-Err-Raised t c = λ inputs level.
 
 -- ---- updates
 
-pub change_turn-returns-in-Some-clause-runs : goal.change_turn-returns-in-Some-clause-runs
-unfolding updates.turned
-change_turn-returns-in-Some-clause-runs t c = λ inputs level.
-    subst (λ (u : Tree). Changed c.change_by_names.result (view c.change_by_names.new.value) (run c.args.self.now inputs level u (plain (view c.args.value.now))))
-    (sym c.in-Some.ensures.same) (c.change_by_names.ensures.runs inputs level)
-
-pub run_turn-returns-in-Ok-clause-runs : goal.run_turn-returns-in-Ok-clause-runs
-run_turn-returns-in-Ok-clause-runs t c = λ inputs e k around.
-    let v = view c.args.value.now in
-    let own = scope_env inputs c.args.own.now in
-    let w = view c.change_to_first.new.value in
-    let a = c.put_part.result in
-    let later = view c.put_part.new.held in
-    let got : getpath_native_of (first_of v) (view c.args.path.now) ≡ Ok (view c.in-Some.part) =
-    getpath_keys (first_of v) c.args.path.now c.in-List.keys c.as_slice-keys.result.now c.in-List.is c.as_slice-keys.ensures ∙ c.in-Some.ensures.part in
-    let set = setpath_keys (first_of v) w c.args.path.now c.in-List.keys c.as_slice-keys.result.now c.in-List.is c.as_slice-keys.ensures in
-    put_turn c.args.self.now.depth k e (view c.args.path.now) (named c.args.body.now) own v (view c.in-Some.part) around c.in-Some.ensures.state got a w later
-    (c.in-Ok.ensures.runs inputs (suc k))
-    (subst (λ z. PutsFirst a z (second_of v) later) (sym set) c.put_part.ensures.puts)
-
-pub run_turn-returns-in-Err-Nothing-clause-runs : goal.run_turn-returns-in-Err-Nothing-clause-runs
-run_turn-returns-in-Err-Nothing-clause-runs t c = λ inputs e k around.
-    let v = view c.args.value.now in
-    let own = scope_env inputs c.args.own.now in
-    let a = c.keep_path.result in
-    let later = view c.keep_path.new.held in
-    let got : getpath_native_of (first_of v) (view c.args.path.now) ≡ Ok (view c.in-Some.part) =
-    getpath_keys (first_of v) c.args.path.now c.in-List.keys c.as_slice-keys.result.now c.in-List.is c.as_slice-keys.ensures ∙ c.in-Some.ensures.part in
-    keep_turn c.args.self.now.depth k e (view c.args.path.now) (named c.args.body.now) own v (view c.in-Some.part) around c.in-Some.ensures.state got a later
-    ((rw c.in-Err-Nothing.field-0-is at c.in-Err-Nothing.ensures.runs) inputs (suc k))
-    (subst (λ z. PutsSecond a (add_of (second_of v) (array (items_of (z ∷ [])))) (first_of v) later) c.in_ok-copy-in-Err-Nothing.ensures c.keep_path.ensures.puts)
-
-pub run_turn-returns-in-Err-Raised-clause-runs : goal.run_turn-returns-in-Err-Raised-clause-runs
-run_turn-returns-in-Err-Raised-clause-runs t c = λ inputs e k around.
-    let v = view c.args.value.now in
-    let own = scope_env inputs c.args.own.now in
-    let got : getpath_native_of (first_of v) (view c.args.path.now) ≡ Ok (view c.in-Some.part) =
-    getpath_keys (first_of v) c.args.path.now c.in-List.keys c.as_slice-keys.result.now c.in-List.is c.as_slice-keys.ensures ∙ c.in-Some.ensures.part in
-    raising_turn c.args.self.now.depth k e (view c.args.path.now) (named c.args.body.now) own v (view c.in-Some.part) around c.in-Some.ensures.state got (Unit {0}) c.in-Err-Raised.error v
-    ((rw c.in-Err-Raised.field-0-is at c.in-Err-Raised.ensures.runs) inputs (suc k))
-    ∙ ap (λ z. fail (view z)) (sym c.in-Err-Raised.error-is)
-
-pub change_by_names-returns-in_ok-path-in-Closure-clause-runs : goal.change_by_names-returns-in_ok-path-in-Closure-clause-runs
-change_by_names-returns-in_ok-path-in-Closure-clause-runs t c = λ inputs level.
-    let env = scope_env inputs c.args.self.now.scope.now in
-    let own = scope_env inputs c.in-Closure.own in
-    let around : Around env (view c.in_ok-path-in-Closure.path) (named c.in-Closure.body.now) own = record {
-      gets = ap (λ n. find_callee n 1 env) (sym c.requires.getter) ∙ c.in_ok-check_natives-in-Closure.ensures.gets inputs;
-      sets = ap (λ n. find_callee n 2 env) (sym c.requires.setter) ∙ c.in_ok-check_natives-in-Closure.ensures.sets inputs;
-      path = ap (λ n. find_value n env) (sym c.requires.path) ∙ sym (c.in_ok-path-in-Closure.ensures inputs);
-      passed = ap (λ n. find_callee n 0 env) (sym c.requires.filter) ∙ sym (c.in-Closure.ensures inputs);
-    } in
-    c.run_turn.ensures.runs inputs env level around
-
-pub update-returns-in-Ok : goal.update-returns-in-Ok
-update-returns-in-Ok t c = λ inputs level.
+pub change_update-returns-else-not-has_modify-clause-runs : goal.change_update-returns-else-not-has_modify-clause-runs
+change_update-returns-else-not-has_modify-clause-runs t c = λ inputs level.
     let p = c.args.self.now in
-    let x : Item = plain (view c.args.value.now) in
-    let env = scope_env inputs p.scope.now in
-    let go : Tree → Item → Run Item = run p inputs level in
-    let free : find_callee (codes "delpaths") 1 env ≡ no_callee = ap (λ n. find_callee n 1 env) (sym c.requires.remover) ∙ c.in_ok-check_unbound.ensures.unbound inputs in
-    let end : Value → Run Item = λ z. go shape.finish (plain z) in
-    subst (λ (u : Tree). Answers c.finished.result (go u x)) (sym c.requires.same)
-    (answers-bind c.finished.result (go (named c.args.update.fold.now) x) (plain (view c.in-Ok.state)) (go shape.finish) (c.in-Ok.ensures inputs level)
-    (c.finished.ensures end (λ y ds h. ap end h ∙ finish-run (below p.depth) env level y ds free)))
+    let e = scope_env inputs p.scope.now in
+    let v = view c.args.value.now in
+    let f = named c.paths-item.result in
+    let g = named c.update-item.result in
+    let d = p.depth - 2 in
+    let deep : p.depth ≡ suc (suc d) = omega arith in
+    let two : length c.args.parts.now ≡ 2 = omega (arith, c.in-len2.len_at_least, c.in-len2.len_below) in
+    let a = c.change_parts.result in
+    let w = view c.change_parts.new.value in
+    let tree = form.prelude_call (name_of c.args.modify.now.name) (trees_of (map named c.args.parts.now)) in
+    let whole : Run Item = run p inputs level tree (plain v) in
+    ∥∥₁_elim (c.has_modify.ensures (search rules) inputs) (changed-prop a w whole)
+    (λ has.
+    subst (Changed a w)
+    (sym (ap (λ u. run p inputs level u (plain v)) (modify_tree c.args.modify.now c.args.parts.now c.paths-item.result c.update-item.result two c.paths-item.is c.update-item.is)
+    ∙ c.an_update_is_its_turns.ensures p.depth f g e level (plain v) has ∙ two_calls_deep p.depth d f g e level v deep))
+    (c.change_parts.ensures.runs inputs level))
 
-pub change_update-returns-in-Some-clause-runs : goal.change_update-returns-in-Some-clause-runs
-unfolding updates.turned updates.updated
-change_update-returns-in-Some-clause-runs t c = λ inputs level.
+pub change_parts-returns-in-Some-clause-runs : goal.change_parts-returns-in-Some-clause-runs
+change_parts-returns-in-Some-clause-runs t c = λ inputs level.
     let p = c.args.self.now in
     let v = view c.args.value.now in
-    let r = run p inputs level (named c.args.update.source.now) (plain v) in
-    let path = c.in-Some.path.now in
-    let same : gathered r ≡ one (plain (array (items_of (view path ∷ [])))) =
-    c.in-Ok.ensures inputs level ∙ ap (λ (xs : List Val). one (plain (array (items_of (map view xs))))) (sym c.as_slice.ensures.value ∙ c.in-Some.ensures) in
-    subst (Changed c.change_at.result (view c.change_at.new.value))
-    (sym (update_once (below p.depth) level (scope_env inputs p.scope.now) (named c.args.tree.now) (named c.args.update.fold.now) (named c.args.update.source.now) v (view path) c.requires.same c.requires.fold same))
-    (c.change_at.ensures.runs inputs level)
+    let r = path_run p inputs level (named c.args.paths.now) v in
+    let g = part_run p inputs level (named c.args.update.now) in
+    let all : gathered r ≡ one (plain (array (items_of (view c.in-Some.path.now ∷ [])))) =
+    c.in_ok-found.ensures.found inputs level ∙ ap (λ (xs : List Val). one (plain (array (items_of (map view xs))))) (sym c.as_slice.ensures.value ∙ c.in-Some.ensures) in
+    subst (Changed c.change_one.result (view c.change_one.new.value)) (sym (known_paths level g r (view c.in-Some.path.now ∷ []) v all)) (c.change_one.ensures.runs inputs level)
 
-pub change_at-returns-in_ok-check_unbound-in-Closure-clause-runs : goal.change_at-returns-in_ok-check_unbound-in-Closure-clause-runs
-change_at-returns-in_ok-check_unbound-in-Closure-clause-runs t c = λ inputs level.
-    let env = scope_env inputs c.args.self.now.scope.now in
-    let own = scope_env inputs c.in-Closure.own in
-    let path = view c.args.path.now in
-    let turns = bound (value_of (codes "p") path) env in
-    let around : Around turns path (named c.in-Closure.body.now) own = record {
-      gets = ap (λ n. find_callee n 1 env) (sym c.requires.names.getter) ∙ c.in_ok-check_natives-in-Closure.ensures.gets inputs;
-      sets = ap (λ n. find_callee n 2 env) (sym c.requires.names.setter) ∙ c.in_ok-check_natives-in-Closure.ensures.sets inputs;
-      path = refl;
-      passed = ap (λ n. find_callee n 0 env) (sym c.requires.names.filter) ∙ sym (c.in-Closure.ensures inputs);
-    } in
-    let free : find_callee (codes "delpaths") 1 env ≡ no_callee = ap (λ n. find_callee n 1 env) (sym c.requires.remover) ∙ c.in_ok-check_unbound-in-Closure.ensures.unbound inputs in
-    c.change_part.ensures.runs inputs turns env level around free
-
-pub change_part-returns-in-Ok-clause-runs : goal.change_part-returns-in-Ok-clause-runs
-unfolding updates.turned updates.updated
-change_part-returns-in-Ok-clause-runs t c = λ inputs e f k around free.
+pub change_parts-returns-clause-runs : goal.change_parts-returns-clause-runs
+change_parts-returns-clause-runs t c = λ inputs level.
+    let p = c.args.self.now in
     let v = view c.args.value.now in
-    let path = view c.args.path.now in
-    let depth = c.args.self.now.depth in
-    let own = scope_env inputs c.args.own.now in
-    let w = view c.change_to_first.new.value in
-    let got : getpath_native_of v path ≡ Ok (view c.in-Some.part) =
-    getpath_keys v c.args.path.now c.in-List.keys c.as_slice.result.now c.in-List.is c.as_slice.ensures ∙ c.in-Some.ensures in
-    subst (Changed c.put_at.result (view c.put_at.new.value))
-    (sym (put_once (below depth) e f k v path (view c.in-Some.part) (named c.args.body.now) own around got free w (c.in-Ok.ensures.runs inputs (suc k))))
-    c.put_at.ensures.runs
+    let r = path_run p inputs level (named c.args.paths.now) v in
+    let g = part_run p inputs level (named c.args.update.now) in
+    let all : gathered r ≡ one (plain (array (items_of (map view c.as_slice-in_default.result.now)))) =
+    c.in_ok-found.ensures.found inputs level ∙ ap (λ (xs : List Val). one (plain (array (items_of (map view xs))))) (sym c.as_slice-in_default.ensures.value) in
+    subst (Changed c.change_copied.result (view c.change_copied.new.value)) (sym (known_paths level g r (map view c.as_slice-in_default.result.now) v all)) (c.change_copied.ensures.runs inputs level)
 
-pub change_part-returns-in-Err-Nothing-clause-runs : goal.change_part-returns-in-Err-Nothing-clause-runs
-unfolding updates.turned updates.updated
-change_part-returns-in-Err-Nothing-clause-runs t c = λ inputs e f k around free.
-    let v = view c.args.value.now in
-    let path = view c.args.path.now in
-    let depth = c.args.self.now.depth in
-    let own = scope_env inputs c.args.own.now in
-    let got : getpath_native_of v path ≡ Ok (view c.in-Some.part) =
-    getpath_keys v c.args.path.now c.in-List.keys c.as_slice.result.now c.in-List.is c.as_slice.ensures ∙ c.in-Some.ensures in
-    subst (Changed c.delete_at.result (view c.delete_at.new.value))
-    (sym (delete_once (below depth) e f k v path (view c.in-Some.part) (named c.args.body.now) own around got free ((rw c.in-Err-Nothing.field-0-is at c.in-Err-Nothing.ensures.runs) inputs (suc k))))
-    c.delete_at.ensures.runs
+pub paths_of-returns-in-Ok-clause-found : goal.paths_of-returns-in-Ok-clause-found
+paths_of-returns-in-Ok-clause-found t c = λ inputs level.
+    let go : Item → Run Item = run c.args.self.now inputs level (named c.args.tree.now) in
+    let r : Run Item = path_run c.args.self.now inputs level (named c.args.tree.now) (view c.args.value.now) in
+    gathered_list inputs level 1048576 (tt {0}) c.new-paths.result.items c.gather.new.into.items r c.new-paths.ensures.items
+    (subst (Gathers (made inputs level (rest.End 1048576)) (Ok (tt {0})) c.new-paths.result.items c.gather.new.into.items)
+    (ap (λ (x : Item). bind (go x) (λ y. bind (path_item y) one)) c.in_ok-start.ensures ∙ sym (paths-rest (go (located (view c.args.value.now) [])) one))
+    (c.in-Ok.ensures inputs level))
 
-pub change_part-returns-in-Err-Raised-clause-runs : goal.change_part-returns-in-Err-Raised-clause-runs
-unfolding updates.turned updates.updated
-change_part-returns-in-Err-Raised-clause-runs t c = λ inputs e f k around free.
+pub change_one-returns-in-Ok-clause-runs : goal.change_one-returns-in-Ok-clause-runs
+change_one-returns-in-Ok-clause-runs t c = λ inputs level.
+    let g = part_run c.args.self.now inputs level (named c.args.update.now) in
+    let go : Value → Value → Run Item = turns level g [] Done in
+    subst (Changed c.delete_listed.result (view c.delete_listed.new.value))
+    (sym (subst (λ (xs : List Val). turn_of level g (view c.args.path.now) (view c.args.value.now) (listed xs) go ≡ go (view c.change_part.new.value) (listed c.change_part.new.without.items)) c.new-without.ensures.items
+    (c.in-Ok.ensures.turn inputs level go)))
+    c.delete_listed.ensures.runs
+
+pub change_one-returns-in-Err-clause-runs : goal.change_one-returns-in-Err-clause-runs
+change_one-returns-in-Err-clause-runs t c = λ inputs level.
+    let g = part_run c.args.self.now inputs level (named c.args.update.now) in
+    let go : Value → Value → Run Item = turns level g [] Done in
+    subst (λ (xs : List Val). Ends c.in-Err.stop (turn_of level g (view c.args.path.now) (view c.args.value.now) (listed xs) go)) c.new-without.ensures.items
+    (c.in-Err.ensures.turn inputs level go)
+
+pub change_part-returns-in-Ok-clause-turn : goal.change_part-returns-in-Ok-clause-turn
+change_part-returns-in-Ok-clause-turn t c = λ inputs level go.
     let v = view c.args.value.now in
-    let path = view c.args.path.now in
-    let depth = c.args.self.now.depth in
-    let own = scope_env inputs c.args.own.now in
-    let got : getpath_native_of v path ≡ Ok (view c.in-Some.part) =
-    getpath_keys v c.args.path.now c.in-List.keys c.as_slice.result.now c.in-List.is c.as_slice.ensures ∙ c.in-Some.ensures in
-    raise_once (below depth) e f k v path (view c.in-Some.part) (named c.args.body.now) own around got free (view c.in-Err-Raised.error) ((rw c.in-Err-Raised.field-0-is at c.in-Err-Raised.ensures.runs) inputs (suc k))
+    let g = part_run c.args.self.now inputs level (named c.args.update.now) in
+    let got = getpath_keys v c.args.path.now c.in-List.keys c.as_slice.result.now c.in-List.is c.as_slice.ensures ∙ c.in-Some.ensures in
+    turn_sets level v (listed c.args.without.now.items) (view c.args.path.now) go g (view c.in-Some.part) got c.put_at.result (view c.change_first.new.value) (view c.put_at.new.value)
+    (c.in-Ok.ensures.runs inputs (suc level)) c.put_at.ensures.runs
+
+pub change_part-returns-in-Err-Nothing-clause-turn : goal.change_part-returns-in-Err-Nothing-clause-turn
+change_part-returns-in-Err-Nothing-clause-turn t c = λ inputs level go.
+    let v = view c.args.value.now in
+    let g = part_run c.args.self.now inputs level (named c.args.update.now) in
+    let got = getpath_keys v c.args.path.now c.in-List.keys c.as_slice.result.now c.in-List.is c.as_slice.ensures ∙ c.in-Some.ensures in
+    turn_lists level v (listed c.args.without.now.items) (view c.args.path.now) go g (view c.in-Some.part) got (listed c.add_copy.new.without.items)
+    ((rw c.in-Err-Nothing.field-0-is at c.in-Err-Nothing.ensures.runs) inputs (suc level))
+    (listed_more (map view c.args.without.now.items) (map view c.add_copy.new.without.items) (view c.args.path.now) c.in_ok-add_copy-in-Err-Nothing.ensures)
+
+pub change_part-returns-in-Err-Raised-clause-turn : goal.change_part-returns-in-Err-Raised-clause-turn
+change_part-returns-in-Err-Raised-clause-turn t c = λ inputs level go.
+    let v = view c.args.value.now in
+    let g = part_run c.args.self.now inputs level (named c.args.update.now) in
+    let got = getpath_keys v c.args.path.now c.in-List.keys c.as_slice.result.now c.in-List.is c.as_slice.ensures ∙ c.in-Some.ensures in
+    turn_raises level v (listed c.args.without.now.items) (view c.args.path.now) go g (view c.in-Some.part) got (view c.in-Err-Raised.error)
+    ((rw c.in-Err-Raised.field-0-is at c.in-Err-Raised.ensures.runs) inputs (suc level))

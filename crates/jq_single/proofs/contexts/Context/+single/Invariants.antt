@@ -1,10 +1,14 @@
-use Rattle.std.proofs.Common.{ℕ, ◌+◌, ◌*◌, pos, List, length, Result}
-use Rattle.jv_data.specs.Value.{Value}
+use Rattle.std.proofs.Common.{◌≡◌, ℕ, ◌+◌, ◌*◌, pos, List, [], drop, length, map, Result}
+use Rattle.jv_data.specs.Value.{Value, array, items_of}
+use Rattle.jv_data.specs.View.{view}
 use Rattle.jv_data.specs.declared.values.Val.{Val}
-use Rattle.jq_meaning.specs.Runs.{Run, bind}
+use Rattle.jq_ast.specs.Named.{named}
+use Rattle.jq_meaning.specs.Runs.{Done, Run, bind}
+use Rattle.jq_meaning.specs.laws.Updating.{turns}
 use Rattle.jq_meaning.specs.Builtins.{numbers_up_to}
 use Rattle.jq_single.specs.declared.stops.Stop.{Stop}
 use Rattle.jq_single.specs.private.Gathering.{Gathers, given_of, made, numbers_from, rest_run}
+use Rattle.jq_single.specs.private.Updates.{listed, part_run}
 use Rattle.jq_single.proofs.contexts.Context.+single.Given as goal
 
 -- the fuel, with an offset so that a helper has a smaller measure than its caller
@@ -108,9 +112,6 @@ decreases-gather_source l = 16 * l.self.now.fuel + 1
 abbrev pub decreases-fold : goal.decreases-fold
 decreases-fold l = 16 * l.self.now.fuel + 3
 
-abbrev pub decreases-update : goal.decreases-update
-decreases-update l = 16 * l.self.now.fuel + 5
-
 abbrev pub decreases-change : goal.decreases-change
 decreases-change l = 16 * l.self.now.fuel
 
@@ -175,25 +176,25 @@ abbrev pub decreases-turn : goal.decreases-turn
 decreases-turn l = 16 * l.self.now.fuel + 3
 
 abbrev pub decreases-change_update : goal.decreases-change_update
-decreases-change_update l = 16 * l.self.now.fuel + 8
+decreases-change_update l = 16 * l.self.now.fuel + 11
 
-abbrev pub decreases-change_at : goal.decreases-change_at
-decreases-change_at l = 16 * l.self.now.fuel + 7
+abbrev pub decreases-change_parts : goal.decreases-change_parts
+decreases-change_parts l = 16 * l.self.now.fuel + 9
+
+abbrev pub decreases-paths_of : goal.decreases-paths_of
+decreases-paths_of l = 16 * l.self.now.fuel + 5
+
+abbrev pub decreases-change_one : goal.decreases-change_one
+decreases-change_one l = 16 * l.self.now.fuel + 8
+
+abbrev pub decreases-change_copied : goal.decreases-change_copied
+decreases-change_copied l = 16 * l.self.now.fuel + 8
+
+abbrev pub decreases-change_each : goal.decreases-change_each
+decreases-change_each l = 16 * l.self.now.fuel + 7
 
 abbrev pub decreases-change_part : goal.decreases-change_part
 decreases-change_part l = 16 * l.self.now.fuel + 6
-
-abbrev pub decreases-change_turn : goal.decreases-change_turn
-decreases-change_turn l = 16 * l.self.now.fuel + 8
-
-abbrev pub decreases-change_by_names : goal.decreases-change_by_names
-decreases-change_by_names l = 16 * l.self.now.fuel + 7
-
-abbrev pub decreases-run_turn : goal.decreases-run_turn
-decreases-run_turn l = 16 * l.self.now.fuel + 6
-
-abbrev pub decreases-change_to_first : goal.decreases-change_to_first
-decreases-change_to_first l = 16 * l.self.now.fuel + 5
 
 abbrev pub decreases-change_first : goal.decreases-change_first
 decreases-change_first l = 16 * l.self.now.fuel + 4
@@ -293,3 +294,9 @@ invariant-give_numbers-loop-value l =
 
 abbrev pub decreases-give_numbers-loop-value : goal.decreases-give_numbers-loop-value
 decreases-give_numbers-loop-value l = length (numbers_from l.next l.end).items
+
+abbrev pub invariant-change_each-loop-path : goal.invariant-change_each-loop-path
+invariant-change_each-loop-path l =
+    (inputs : Run Value) (level : ℕ)
+    → turns level (part_run l.self inputs level (named l.update)) (map view (drop l.path-index l.paths)) Done (view l.value) (listed l.without.items)
+    ≡ turns level (part_run l.self inputs level (named l.update)) (map view l.paths) Done (view l.initial.value) (array (items_of []))

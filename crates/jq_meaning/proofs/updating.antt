@@ -1,0 +1,5 @@
+-- The law of updates.
+pub mod Forms
+pub mod Turns
+pub mod Updates
+pub mod Stays

@@ -1,0 +1,3 @@
+-- What `f |= g` does: the prelude's `_modify`.
+pub mod Body
+pub mod Known

@@ -1,0 +1,206 @@
+// Updates (`f |= g`): the paths of f are gathered once, and each part becomes the first output of g.
+ghost use Rattle.std.specs.Prelude.{◌≡◌, ◌++◌, ◌∷◌, [], IfErr, IfOk, IfSome, Ok, OnOk, map};
+ghost use Rattle.jv_data.specs.Value.{Value};
+ghost use Rattle.jv_data.specs.View.{view};
+ghost use Rattle.jv_value.specs.GetPath.{getpath_of};
+ghost use Rattle.jq_natives.specs.declared.native.Native.TheVariants.{DelPaths, SetPath};
+ghost use Rattle.jq_ast.specs.Named.{name_of, named};
+ghost use Rattle.jq_tree.specs.Tree.{trees_of};
+ghost use Rattle.jq_tree.specs.Tree as form;
+ghost use Rattle.jq_meaning.specs.Builtins.{plain_native};
+ghost use Rattle.jq_single.specs.Single.{Changed, Keeps};
+ghost use Rattle.jq_single.specs.private.Parts.{ChangesTo, IsUntold};
+ghost use Rattle.jq_single.specs.private.Updates.{ChangesParts, FindsPaths, TakesTurn, TakesTurns, listed};
+
+use crate::calling::call_on;
+use crate::contexts::Context;
+use crate::finding::has_modify;
+use crate::folding::single_of;
+use crate::paths::start_at;
+use crate::rests::Rest;
+use crate::stops::{Stop, untold};
+use jq_ast::{Modify, Tree};
+use jq_meaning::updates::an_update_is_its_turns;
+use jq_natives::Native;
+use jq_shapes::pays_for_copy;
+use jv_data::{Array, NoMemory, Val};
+use jv_value::getpath;
+use jv_value::laws::deleting_no_path_changes_nothing;
+use std::alloc::Global;
+
+// The most paths that are kept in a list.
+const MOST: usize = 1_048_576;
+
+impl<'s> Context<'s> {
+    /// `f |= g`, where both filters are two calls deep. If `_modify` is not known to be the prelude's, it is not run at once.
+    #[cycle(single)]
+    #[inline(never)]
+    pub(crate) fn change_update(
+        &self,
+        modify: &Modify,
+        parts: &'s [Tree],
+        value: &mut Val,
+    ) -> Result<(), Stop>
+        ensures runs { ChangesTo self.now (form.prelude_call (name_of modify.now.name) (trees_of (map named parts.now))) (view value.old) (view value.new) result }
+        ensures keeps { Keeps result (view value.old) (view value.new) }
+    {
+        an_update_is_its_turns();
+        match parts {
+            [paths, update] => {
+                if self.depth < 2 || !has_modify(self.scope) {
+                    return Err(Stop::Unknown);
+                }
+                let inside = Context {
+                    depth: self.depth - 2,
+                    ..*self
+                };
+                inside.change_parts(&*paths, &*update, value)
+            }
+            _ => Err(Stop::Unknown),
+        }
+    }
+
+    // The parts at the paths of a filter. One part is changed in place. With more of them a copy of the value is changed, since `g`
+    // may not run at once on a later part.
+    #[cycle(single)]
+    #[inline(never)]
+    fn change_parts(&self, paths: &'s Tree, update: &'s Tree, value: &mut Val) -> Result<(), Stop>
+        ensures runs { ChangesParts self.now (named paths.now) (named update.now) (view value.old) (view value.new) result }
+        ensures keeps { Keeps result (view value.old) (view value.new) }
+    {
+        let found = self.paths_of(paths, value)?;
+        match single_of(found.as_slice()) {
+            Some(path) if !self.kept => self.change_one(path, update, value),
+            _ => self.change_copied(found.as_slice(), update, value),
+        }
+    }
+
+    // The paths of a filter into a value.
+    #[cycle(single)]
+    fn paths_of(&self, tree: &'s Tree, value: &Val) -> Result<Vec<Val>, Stop>
+        ensures found { IfOk result (λ paths. FindsPaths self.now (named tree.now) (view value.now) (map view paths.items)) }
+        ensures err { IfErr result IsUntold }
+    {
+        let start = start_at(self.alloc, value)?;
+        let end = Rest::End(MOST);
+        let path = Rest::Path(&end);
+        let mut paths = Vec::new(self.alloc);
+        match (&*self).gather(&*tree, &start, &path, &mut paths) {
+            Ok(()) => Ok(paths),
+            Err(stop) => Err(untold(stop)),
+        }
+    }
+
+    // The part at one path.
+    #[cycle(single)]
+    fn change_one(&self, path: &Val, update: &'s Tree, value: &mut Val) -> Result<(), Stop>
+        ensures runs { TakesTurns self.now (named update.now) (view path.now ∷ []) (view value.old) (view value.new) result }
+        ensures keeps { Keeps result (view value.old) (view value.new) }
+    {
+        let mut without = Vec::new(self.alloc);
+        match self.change_part(path, update, value, &mut without) {
+            Ok(()) => delete_listed(self.alloc, value, without),
+            Err(stop) => Err(stop),
+        }
+    }
+
+    // The parts at some paths, in a copy of the value.
+    #[cycle(single)]
+    fn change_copied(&self, paths: &[Val], update: &'s Tree, value: &mut Val) -> Result<(), Stop>
+        ensures runs { TakesTurns self.now (named update.now) (map view paths.now) (view value.old) (view value.new) result }
+        ensures keeps { Keeps result (view value.old) (view value.new) }
+    {
+        if !pays_for_copy(value, paths) {
+            return Err(Stop::Unknown);
+        }
+        let mut changed = value.copy()?;
+        match self.change_each(paths, update, &mut changed) {
+            Ok(()) => {
+                *value = changed;
+                Ok(())
+            }
+            Err(stop) => Err(stop),
+        }
+    }
+
+    // One part after the other. The parts at the listed paths are deleted at the end.
+    #[cycle(single)]
+    fn change_each(&self, paths: &[Val], update: &'s Tree, value: &mut Val) -> Result<(), Stop>
+        ensures { TakesTurns self.now (named update.now) (map view paths.now) (view value.old) (view value.new) result }
+    {
+        let mut without = Vec::new(self.alloc);
+        for path in paths {
+            match self.change_part(path, update, value, &mut without) {
+                Ok(()) => {}
+                Err(stop) => return Err(stop),
+            }
+        }
+        delete_listed(self.alloc, value, without)
+    }
+
+    // The part at a path becomes the first output of a filter. Without output the path is listed.
+    #[cycle(single)]
+    fn change_part(
+        &self,
+        path: &Val,
+        update: &'s Tree,
+        value: &mut Val,
+        without: &mut Vec<Val>,
+    ) -> Result<(), Stop>
+        ensures turn { TakesTurn self.now (named update.now) (view path.now) (view value.old) (listed without.old.items) (view value.new) (listed without.new.items) result }
+        ensures keeps { Keeps result (view value.old) (view value.new) }
+    {
+        let Val::List(keys) = path else {
+            return Err(Stop::Unknown);
+        };
+        match part_under(self.alloc, value, keys.as_slice()) {
+            Some(mut part) => match self.change_first(update, &mut part) {
+                Ok(()) => put_at(self.alloc, value, path, part),
+                Err(Stop::Nothing) => Ok(add_copy(without, path)?),
+                Err(Stop::Raised(error)) => Err(Stop::Raised(error)),
+                Err(Stop::NoMemory) => Err(Stop::NoMemory),
+                Err(Stop::Unknown) => Err(Stop::Unknown),
+            },
+            None => Err(Stop::Unknown),
+        }
+    }
+}
+
+// The part at a path.
+fn part_under(alloc: Global, value: &Val, path: &[Val]) -> Option<Val>
+    ensures { IfSome result (λ part. getpath_of (view value.now) (map view path.now) ≡ Ok (view part)) }
+{
+    match getpath(alloc, value, path) {
+        Ok(part) => Some(part),
+        Err(_) => None,
+    }
+}
+
+// Puts a part at a path.
+fn put_at(alloc: Global, value: &mut Val, path: &Val, part: Val) -> Result<(), Stop>
+    ensures runs { Changed result (view value.new) (plain_native SetPath (view value.old) (view path.now ∷ view part ∷ [])) }
+    ensures keeps { (v : Value) → Keeps result v (view value.new) }
+{
+    let path = path.copy()?;
+    call_on(alloc, Native::SetPath, value, &[path, part])
+}
+
+fn add_copy(without: &mut Vec<Val>, path: &Val) -> Result<(), NoMemory>
+    ensures { OnOk result (map view without.new.items ≡ map view without.old.items ++ view path.now ∷ []) }
+{
+    without.push(path.copy()?)?;
+    Ok(())
+}
+
+// Deletes the parts at the listed paths.
+fn delete_listed(alloc: Global, value: &mut Val, without: Vec<Val>) -> Result<(), Stop>
+    ensures runs { Changed result (view value.new) (plain_native DelPaths (view value.old) (listed without.items ∷ [])) }
+    ensures keeps { (v : Value) → Keeps result v (view value.new) }
+{
+    deleting_no_path_changes_nothing();
+    if without.is_empty() {
+        return Ok(());
+    }
+    let paths = Val::List(Array::from_vec(alloc, without)?);
+    call_on(alloc, Native::DelPaths, value, &[paths])
+}
