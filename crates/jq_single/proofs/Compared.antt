@@ -1,23 +1,22 @@
 -- The run of a comparison of the input, or of `type`, with a constant.
-use Rattle.std.proofs.Common.{◌≡◌, ◌∙◌, ℕ, Bool, Option, Some, None, IfSome, Ok, codes, refl, sym, ap}
+use Rattle.std.proofs.Common.{◌≡◌, ◌∙◌, ℕ, [], Bool, Option, Some, None, IfSome, Ok, codes, refl, sym, ap}
 use Rattle.jv_data.specs.Value.{Value, boolean, string}
 use Rattle.jv_data.proofs.shared.Levels.{view-Bool}
 use Rattle.jv_data.specs.Kind.{kind_name}
 use Rattle.jv_data.specs.declared.values.Val as val
 use Rattle.jq_natives.specs.Answers.{yes_or_no}
 use Rattle.jq_tree.specs.Tree.{Name, Operator, Literal, Tree, binary, call, identity, literal, no_trees}
-use Rattle.jq_meaning.specs.Builtins.{builtin_named, builtin_run}
+use Rattle.jq_meaning.specs.Builtins.{builtin_named}
 use Rattle.jq_meaning.specs.Continuations.{value_of_literal, on_left, on_right}
-use Rattle.jq_meaning.specs.Env.{find_callee, find_inputs, no_callee}
-use Rattle.jq_meaning.specs.Meaning.{arguments_with, below}
+use Rattle.jq_meaning.specs.Env.{find_callee, no_callee}
 use Rattle.jq_meaning.specs.Runs.{Run, answered, plain, one}
 use Rattle.jq_meaning.specs.Steps.{operator_of}
 use Rattle.jq_meaning.proofs.shared.machine.RunLaws.{bind-one}
 use Rattle.jq_single.specs.declared.contexts.Context.{Context}
-use Rattle.jq_single.specs.private.Parts.{RunsTo, run}
+use Rattle.jq_single.specs.private.Parts.{RunsTo, builtin_in, run}
 use Rattle.jq_single.specs.private.Scopes.{scope_env}
 use Rattle.jq_single.proofs.Binding.{bind-known}
-use Rattle.jq_single.proofs.TurnForms.{called-none}
+use Rattle.jq_single.proofs.Bodies.{builtin_runs}
 
 -- a comparison of a filter's one output
 told : (p : Context) (inputs : Run Value) (level : ℕ) (op : Operator) (t : Tree) (l : Literal) (v w : Value) (b : Bool)
@@ -33,9 +32,7 @@ told p inputs level op t l v w b h k =
 kind_run : (p : Context) (inputs : Run Value) (level : ℕ) (n : Name) (v : Value) → n ≡ codes "type" → find_callee n 0 (scope_env inputs p.scope.now) ≡ no_callee
     → run p inputs level (call n no_trees) (plain v) ≡ one (plain (string (kind_name v)))
 kind_run p inputs level n v e h =
-    let env = scope_env inputs p.scope.now in
-    called-none (below p.depth) (find_callee n 0 env) no_trees env level (plain v) (builtin_run (builtin_named n 0) (arguments_with (below p.depth) no_trees env level) (find_inputs env) (plain v)) h
-    ∙ ap (λ m. builtin_run (builtin_named m 0) (arguments_with (below p.depth) no_trees env level) (find_inputs env) (plain v)) e
+    builtin_runs p inputs level n [] (builtin_named n 0) (plain v) (sym h) refl ∙ ap (λ m. builtin_in p inputs level (builtin_named m 0) no_trees (plain v)) e
 
 pub input_told : (p : Context) (op : Operator) (t u : Tree) (l : Literal) (v : Value) (r : Option Bool) → t ≡ identity → u ≡ literal l
     → IfSome r (λ b. operator_of op v (value_of_literal l) ≡ yes_or_no b) → IfSome r (λ b. RunsTo p (binary op t u) v (Ok (val.Bool b)))
