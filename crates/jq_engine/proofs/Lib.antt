@@ -1,10 +1,13 @@
 pub mod AtOnce
+pub mod Bindings
 pub mod Covering
 pub mod Fitting
 pub mod Leading
 pub mod OnConstants
+pub mod Passing
 pub mod Pipes
 pub mod Puts
+pub mod Ranges
 pub mod Ready
 pub mod Starting
 pub mod Following
