@@ -1,13 +1,13 @@
 pub mod AtOnce
-pub mod Bindings
+pub mod BoundAtOnce
 pub mod Covering
 pub mod Fitting
 pub mod Leading
 pub mod OnConstants
-pub mod Passing
+pub mod PassedOn
 pub mod Pipes
 pub mod Puts
-pub mod Ranges
+pub mod RangesAtOnce
 pub mod Ready
 pub mod Starting
 pub mod Following

@@ -18,7 +18,7 @@ use Rattle.jq_state.specs.declared.items.Item as items
 use Rattle.jq_engine.specs.private.Leading.{Leads, at_filter}
 use Rattle.jq_engine.specs.private.Simple.{BindsOne}
 use Rattle.jq_engine.specs.private.Tails.{Arrives}
-use Rattle.jq_engine.proofs.Bindings.{binds}
+use Rattle.jq_engine.proofs.BoundAtOnce.{binds}
 use Rattle.jq_engine.proofs.Waiting.{value_alone}
 use Rattle.jq_engine.proofs.bindings.bind_tail.Goals as goal
 

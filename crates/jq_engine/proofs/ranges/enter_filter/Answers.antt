@@ -3,7 +3,7 @@ use Rattle.jq_ast.specs.Named.{named}
 use Rattle.jq_state.specs.Inputs.{inputs_of}
 use Rattle.jq_state.specs.Items.{item_of}
 use Rattle.jq_engine.specs.private.Leading.{at_filter}
-use Rattle.jq_engine.proofs.Ranges.{enters_at}
+use Rattle.jq_engine.proofs.RangesAtOnce.{enters_at}
 use Rattle.jq_engine.proofs.ranges.enter_filter.Goals as goal
 
 pub returns : goal.returns

@@ -7,7 +7,7 @@ use Rattle.jq_state.specs.declared.environments.Nodes.{Nodes}
 use Rattle.jq_engine.specs.private.Leading.{at_filter}
 use Rattle.jq_engine.specs.private.Ranges.{RangesOver}
 use Rattle.jq_engine.specs.private.Tails.{Arrives}
-use Rattle.jq_engine.proofs.Ranges.{enters_at, range_begins}
+use Rattle.jq_engine.proofs.RangesAtOnce.{enters_at, range_begins}
 use Rattle.jq_engine.proofs.ranges.enter_range.Goals as goal
 
 pub returns-in-Some : goal.returns-in-Some

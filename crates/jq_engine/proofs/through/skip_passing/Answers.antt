@@ -2,7 +2,7 @@ use Rattle.jq_meaning.specs.Runs.{none}
 use Rattle.jq_state.specs.Views.{frames_in}
 use Rattle.jq_engine.specs.private.Leading.{here}
 use Rattle.jq_engine.proofs.Leading.{and_then}
-use Rattle.jq_engine.proofs.Passing.{fewer, same_item, skips}
+use Rattle.jq_engine.proofs.PassedOn.{fewer, same_item, skips}
 use Rattle.jq_engine.proofs.through.skip_passing.Goals as goal
 
 pub frames-init : goal.frames-init
