@@ -80,6 +80,7 @@ fn bound_at_once<'p>(
     }
 }
 
+// The name of the variable, if the pattern is one.
 fn variable_of<'p>(pattern: &'p Pattern) -> Option<&'p String>
     ensures { IfSome result (λ n. named_as_pattern pattern.now ≡ form.whole (text_of n.now)) }
 {

@@ -78,6 +78,7 @@ fn is_range(tree: &Tree) -> bool {
     }
 }
 
+// Whether a name refers to `range(f; g)`.
 #[inline(always)]
 fn refers_to_range(name: &Name) -> bool {
     match name.referent {

@@ -23,6 +23,7 @@ pub(crate) fn pass_through(state: &mut State<'_>)
     skip_passing(state);
 }
 
+// The same where there is such a frame. A call of its own, since most items meet none.
 #[inline(never)]
 fn skip_passing(state: &mut State<'_>)
     ensures { (inputs : Run Value) (x : runs.Item) → Advances (at_item inputs state.old x) (at_item inputs state.new x) }

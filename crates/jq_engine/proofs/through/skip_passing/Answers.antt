@@ -9,11 +9,11 @@ pub frames-init : goal.frames-init
 frames-init c = record { run = λ inputs x. here }
 
 pub frames-smaller : goal.frames-smaller
-frames-smaller c = fewer (frames_in none c.frames.state) (frames_in none c.skip.new.self) (c.passes_first.ensures c.passes_first.true none) (c.skip.ensures.frames none)
+frames-smaller c = fewer (frames_in none c.frames.state) (frames_in none c.skip.new.self) (c.passes_first.ensures c.frames-test.true none) (c.skip.ensures.frames none)
 
 pub frames-preserved : goal.frames-preserved
 frames-preserved c = record {
-  run = λ inputs x. and_then (c.frames.invariant.run inputs x) (skips inputs c.frames.state c.skip.new.self x (c.passes_first.ensures c.passes_first.true inputs) (c.skip.ensures.frames inputs) (c.skip.ensures.forks inputs));
+  run = λ inputs x. and_then (c.frames.invariant.run inputs x) (skips inputs c.frames.state c.skip.new.self x (c.passes_first.ensures c.frames-test.true inputs) (c.skip.ensures.frames inputs) (c.skip.ensures.forks inputs));
 }
 
 pub returns : goal.returns
