@@ -1,7 +1,7 @@
 -- A variable is bound to the output of a simple filter.
-use Rattle.std.proofs.Common.{◌≡◌, ◌∙◌, ◌∷◌, [], List, refl, sym, ap, subst}
+use Rattle.std.proofs.Common.{◌≡◌, ◌∷◌, [], List, refl, ap}
 use Rattle.jv_data.specs.Value.{Value}
-use Rattle.jq_tree.specs.Tree.{Name, Tree, Pattern, bind_as, whole}
+use Rattle.jq_tree.specs.Tree.{Name, Tree, bind_as, whole}
 use Rattle.jq_meaning.specs.Env.{bound, value_of}
 use Rattle.jq_meaning.specs.Runs.{Item, plain, as_value}
 use Rattle.jq_meaning.specs.machine.State.{Scope, with_env, Frame, ForkPoint, body, source, state, evaluate, give, matched, moves}

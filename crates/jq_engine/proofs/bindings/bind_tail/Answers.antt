@@ -1,13 +1,10 @@
-use Rattle.std.proofs.Common.{◌≡◌, ◌∙◌, sym, ap, subst, refl}
-use Rattle.std.proofs.lemmas.Result.{IfOk-weaker}
+use Rattle.std.proofs.Common.{◌∙◌, sym, ap, subst, refl}
 use Rattle.jv_data.specs.Text.{text_of}
 use Rattle.jv_data.specs.View.{view}
 use Rattle.jq_ast.specs.Named.{named, named_as_pattern}
 use Rattle.jq_tree.specs.Tree.{Pattern, bind_as}
 use Rattle.jq_meaning.specs.Env.{bound, value_of}
-use Rattle.jq_meaning.specs.Runs.{Item}
 use Rattle.jq_meaning.specs.machine.State.{with_env, state, evaluate}
-use Rattle.jq_meaning.specs.machine.State as machine
 use Rattle.jq_state.specs.Inputs.{inputs_of}
 use Rattle.jq_state.specs.Items.{item_of}
 use Rattle.jq_state.specs.Links.{scope_in}
