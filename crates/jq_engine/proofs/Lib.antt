@@ -1,10 +1,13 @@
 pub mod AtOnce
+pub mod BoundAtOnce
 pub mod Covering
 pub mod Fitting
 pub mod Leading
 pub mod OnConstants
+pub mod PassedOn
 pub mod Pipes
 pub mod Puts
+pub mod RangesAtOnce
 pub mod Ready
 pub mod Starting
 pub mod Following

@@ -5,7 +5,6 @@ use Rattle.jq_meaning.specs.machine.Giving.{receive}
 use Rattle.jq_meaning.specs.machine.Machine.{step_of}
 use Rattle.jq_meaning.specs.machine.State.{Frame, ForkPoint, state, give, go_back, moves, outputs}
 use Rattle.jq_meaning.specs.machine.State as machine
-use Rattle.jq_state.specs.declared.states.State.{State}
 
 -- an item that comes to a frame
 pub gives : (x : Item) {k l : List Frame} {fs gs : List ForkPoint} {f : Frame} {s : machine.State} → k ≡ f ∷ l → gs ≡ fs → s ≡ receive f x l gs → step_of (give x) k fs ≡ moves s

@@ -4,6 +4,7 @@
 #![tactic(auto)]
 
 mod at_once;
+mod bindings;
 mod bodies;
 mod doing;
 mod engines;
@@ -13,10 +14,13 @@ mod operators;
 mod parts;
 mod passing;
 mod putting;
+mod ranges;
 mod running;
+mod simple;
 mod small;
 mod stepping;
 mod tails;
+mod through;
 mod turns;
 
 pub use engines::Engine;

@@ -73,8 +73,8 @@ pub(crate) fn is_small(tree: &Tree) -> bool {
     }
 }
 
-// Whether a filter is a part of the input, a variable or a constant, or makes a value of two of these.
-fn is_simple(tree: &Tree) -> bool {
+/// Whether a filter is a part of the input, a variable or a constant, or makes a value of two of these.
+pub(crate) fn is_simple(tree: &Tree) -> bool {
     match tree {
         Tree::Field(target, _, _) => is_part(target),
         Tree::Index(target, key, _) => is_part(target) && is_part(key),

@@ -12,6 +12,7 @@ use crate::guards::Guard;
 use crate::passing::go_back;
 use crate::putting::hand_on;
 use crate::tails::evaluate;
+use crate::through::pass_through;
 use jq_state::inputs::Inputs;
 use jq_state::items::Item;
 use jq_state::next::Next;
@@ -52,7 +53,7 @@ pub(crate) fn step<'p>(
     }
 }
 
-/// An item goes to the first frame that waits. If that is a fold with one variable, its update may run at once.
+/// An item goes to the first frame that does not only pass it on. If that is a fold with one variable, its update may run at once.
 pub(crate) fn deliver<'p>(
     alloc: Global,
     state: &mut State<'p>,
@@ -62,6 +63,7 @@ pub(crate) fn deliver<'p>(
 ) -> Result<Progress<'p>, NoMemory>
     ensures { IfOk result (Leads (inputs_of inputs.now) (at_item (inputs_of inputs.now) state.old (item_of item)) state.new) }
 {
+    pass_through(state);
     if let Some((step, scope)) = top_step(state) {
         state.skip();
         return run_step(alloc, state, step, scope, item, inputs, guard);

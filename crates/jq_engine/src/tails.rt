@@ -15,11 +15,13 @@ ghost use Rattle.jq_state.specs.Nexts.{NextFits, stands};
 ghost use Rattle.jq_engine.specs.private.Tails.{Follows, FollowsAfter};
 
 use crate::at_once::{change, run_at_once};
+use crate::bindings::bind_tail;
 use crate::bodies::called_body;
 use crate::guards::Guard;
-use crate::parts::{begin_binding, stopped, wait};
+use crate::parts::{stopped, wait};
 use crate::passing::go_back;
 use crate::putting::{end_without_part, kept_turn};
+use crate::ranges::enter_filter;
 use crate::stepping::deliver;
 use jq_ast::Tree;
 use jq_natives::truth;
@@ -29,7 +31,7 @@ use jq_state::items::Item;
 use jq_state::next::Next;
 use jq_state::states::State;
 use jq_state::steps::{Combining, Step};
-use jq_transitions::{Progress, enter};
+use jq_transitions::{Progress, leave};
 use jv_data::{NoMemory, Val};
 use std::alloc::Global;
 use std::mem::replace;
@@ -187,11 +189,9 @@ fn first_tail<'p>(
             )
         }
         Tree::BindAs(source, pattern, body) => {
-            let input = taken(input);
-            let progress = begin_binding(
+            bind_tail(
                 alloc, state, source, pattern, body, scope, input, inputs, guard,
-            )?;
-            Ok(Tail::Progress(progress))
+            )
         }
         _ => other_tail(alloc, state, tree, scope, input, inputs, guard),
     }
@@ -214,11 +214,12 @@ fn other_tail<'p>(
     if let Some((body, inside)) = called_body(state.nodes(), tree, scope) {
         return Ok(Tail::Filter(body, inside));
     }
-    let next = enter(alloc, state, tree, scope, taken(input), inputs)?;
+    let next = enter_filter(alloc, state, tree, scope, taken(input), inputs)?;
     later_tail(alloc, state, next, input, inputs, guard)
 }
 
-// What follows a transition: a filter is evaluated in the same step, and an item goes to the frame that waits for it.
+// What follows a transition: a filter is evaluated in the same step, an item goes to the frame that waits for it, and a break to its
+// label.
 #[inline(always)]
 fn later_tail<'p>(
     alloc: Global,
@@ -240,6 +241,10 @@ fn later_tail<'p>(
             guard.earn();
             let progress = deliver(alloc, state, item, inputs, guard)?;
             Ok(Tail::Progress(progress))
+        }
+        Next::Leave(level) => {
+            guard.earn();
+            Ok(Tail::Progress(leave(state, level)))
         }
         other => Ok(Tail::Progress(Progress::Moves(other))),
     }
@@ -323,9 +328,9 @@ fn branch_for<'p>(test: &Val, holds: &'p Tree, fails: &'p Tree) -> &'p Tree
     if truth(test) { holds } else { fails }
 }
 
-// Takes an item, and leaves null.
+/// Takes an item, and leaves null.
 #[inline(always)]
-fn taken(input: &mut Item) -> Item
+pub(crate) fn taken(input: &mut Item) -> Item
     ensures { result ≡ input.old }
 {
     replace(input, Item::plain(Val::Null))

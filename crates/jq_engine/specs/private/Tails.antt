@@ -8,7 +8,9 @@ use Rattle.jq_meaning.specs.machine.State.{moves}
 use Rattle.jq_meaning.specs.machine.State as machine
 use Rattle.jq_state.specs.Environments.{count_of}
 use Rattle.jq_state.specs.Items.{item_of}
+use Rattle.jq_state.specs.Nexts.{NextFits, stands}
 use Rattle.jq_state.specs.declared.items.Item.{Item}
+use Rattle.jq_state.specs.declared.next.Next.{Next}
 use Rattle.jq_state.specs.declared.states.State.{State}
 use Rattle.jq_engine.specs.private.Leading.{Advances, Leads, at_filter}
 use Rattle.jq_engine.specs.declared.tails.Tail.{Tail}
@@ -19,6 +21,10 @@ pub record Arrives (before goal : machine.State) : Type 0 where
   pub from : machine.State
   pub advances : Advances before from
   pub steps : step from ≡ moves goal
+
+-- It is what is done next.
+abbrev pub ArrivesAt : Run Value → (before : machine.State) → State → Next → Type 0
+ArrivesAt inputs before s n = NextFits (count_of s.nodes) n × Arrives before (stands inputs s n)
 
 -- A filter is evaluated next, on what the input has become; or the run comes to this progress.
 abbrev pub Follows : Run Value → (before : machine.State) → State → Item → Tail → Type 0

@@ -7,13 +7,14 @@ use Rattle.jq_state.specs.Items.{item_of}
 use Rattle.jq_state.specs.Links.{scope_in}
 use Rattle.jq_state.specs.Views.{envs_in, frames_in, forks_in}
 use Rattle.jq_engine.specs.private.Folds.{source_of}
-use Rattle.jq_engine.specs.private.Leading.{Leads}
+use Rattle.jq_engine.specs.private.Leading.{Leads, at_item}
+use Rattle.jq_engine.proofs.Leading.{leads_later, later_leads}
 use Rattle.jq_engine.proofs.stepping.deliver.Goals as goal
 
 pub returns-in-Some : goal.returns-in-Some
 returns-in-Some c =
     let inputs = inputs_of c.args.inputs.now in
-    let s = c.args.state.now in
+    let s = c.pass_through.new.state in
     let skipped = c.skip.new.self in
     let f = c.in-Some.step in
     let q = c.in-Some.scope in
@@ -23,8 +24,13 @@ returns-in-Some c =
     c.in-Some.ensures.frames inputs
     ∙ ap (λ k. source_of f (scope_in (envs_in inputs s) q) ∷ k) (sym (c.skip.ensures.frames inputs))
     ∙ ap (λ ns. source_of f (scope_in (envs_of inputs ns) q) ∷ frames_in inputs skipped) (sym c.skip.ensures.envs) in
-    subst (λ k. IfOk c.run_step.result (Leads inputs (state (give x) k (forks_in inputs s)) u)) (sym first)
-    (subst (λ fs. IfOk c.run_step.result (Leads inputs (state (give x) (source_of f (scope_in (envs_in inputs skipped) q) ∷ frames_in inputs skipped) fs) u)) (c.skip.ensures.forks inputs) c.run_step.ensures)
+    leads_later inputs (at_item inputs c.args.state.now x) (at_item inputs s x) u c.run_step.result (c.pass_through.ensures inputs x)
+    (subst (λ k. IfOk c.run_step.result (Leads inputs (state (give x) k (forks_in inputs s)) u)) (sym first)
+    (subst (λ fs. IfOk c.run_step.result (Leads inputs (state (give x) (source_of f (scope_in (envs_in inputs skipped) q) ∷ frames_in inputs skipped) fs) u)) (c.skip.ensures.forks inputs) c.run_step.ensures))
 
 pub returns : goal.returns
-returns c = IfOk-weaker c.hand_on.result _ _ (λ r g. g (inputs_of c.args.inputs.now)) c.hand_on.ensures
+returns c =
+    let inputs = inputs_of c.args.inputs.now in
+    let x = item_of c.args.item in
+    IfOk-weaker c.hand_on.result _ _
+    (λ r g. later_leads inputs (at_item inputs c.args.state.now x) (at_item inputs c.pass_through.new.state x) c.hand_on.new.state r (c.pass_through.ensures inputs x) (g inputs)) c.hand_on.ensures

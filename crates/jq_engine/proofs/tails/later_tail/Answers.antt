@@ -14,6 +14,11 @@ returns-in_ok-progress-in-Give c before e =
     let inputs = inputs_of c.args.inputs.now in
     later_leads inputs before (at_item inputs c.args.state.now (item_of c.in-Give.item)) c.deliver.new.state c.in_ok-progress-in-Give.progress (by_transition (rw c.in-Give.is at e) here) c.in_ok-progress-in-Give.ensures
 
+pub returns-in-Leave : goal.returns-in-Leave
+returns-in-Leave c before e =
+    let inputs = inputs_of c.args.inputs.now in
+    record { from = stands inputs c.args.state.now c.args.next; advances = by_transition e here; steps = λ f. rw c.in-Leave.is (c.leave.ensures inputs) }
+
 pub returns-in_default : goal.returns-in_default
 returns-in_default c before e =
     let inputs = inputs_of c.args.inputs.now in

@@ -1,8 +1,7 @@
-use Rattle.std.proofs.Common.{◌≡◌, ◌∙◌, ◌<◌, sym, ap, subst}
+use Rattle.std.proofs.Common.{◌≡◌, ◌<◌, ap, subst}
 use Rattle.std.proofs.lemmas.Result.{IfOk-weaker}
 use Rattle.jq_ast.specs.Named.{named}
 use Rattle.jq_meaning.specs.machine.Evaluating.{enter}
-use Rattle.jq_meaning.specs.machine.Machine.{step}
 use Rattle.jq_meaning.specs.machine.State.{state, evaluate, moves}
 use Rattle.jq_meaning.specs.machine.State as machine
 use Rattle.jq_state.specs.Environments.{count_of, envs_of}
@@ -12,7 +11,8 @@ use Rattle.jq_state.specs.Links.{scope_in}
 use Rattle.jq_state.specs.Views.{frames_in, forks_in}
 use Rattle.jq_state.specs.declared.environments.Nodes.{Nodes}
 use Rattle.jq_state.specs.declared.items.Item as items
-use Rattle.jq_engine.specs.private.Leading.{at_filter, here}
+use Rattle.jq_engine.specs.private.Leading.{Advances, at_filter, here}
+use Rattle.jq_engine.proofs.Following.{follows_later}
 use Rattle.jq_engine.proofs.tails.other_tail.Goals as goal
 
 pub returns-in-Some : goal.returns-in-Some
@@ -38,4 +38,6 @@ pub returns : goal.returns
 returns c =
     let inputs = inputs_of c.args.inputs.now in
     let at : items.Item → machine.State = λ z. at_filter inputs c.args.state.now (named c.args.tree.now) c.args.scope (item_of z) in
-    IfOk-weaker c.later_tail.result _ _ (λ r g. g (at c.args.input.now) (ap (λ z. step (at z)) (sym c.taken.ensures) ∙ ap moves (sym c.in_ok-next.ensures.1))) c.later_tail.ensures
+    let next = c.in_ok-next.ensures.1 in
+    let came : Advances (at c.args.input.now) next.from = subst (λ z. Advances (at z) next.from) c.taken.ensures next.advances in
+    IfOk-weaker c.later_tail.result _ _ (λ r g. follows_later inputs (at c.args.input.now) next.from c.later_tail.new.state c.later_tail.new.input r came (g next.from next.steps)) c.later_tail.ensures
