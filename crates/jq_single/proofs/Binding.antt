@@ -1,6 +1,8 @@
 -- What is claimed of a run that goes on with another filter, of outputs that are added to a list, and of the steps of a fold.
 use Rattle.std.proofs.Common.{◌≡◌, ◌∙◌, if◌then◌else◌, ℕ, List, Bool, true, false, Result, Ok, Err, refl, sym, ap, subst, [], ◌∷◌, ◌++◌, map, reverse, length, Option, Some, option_to_list, arith, None, IfSome}
+use Rattle.std.proofs.lemmas.Bool.{false≢true}
 use Rattle.std.specs.Result.{IsErrAnd}
+use mathlib.Core.Bool.{beq}
 use Rattle.jv_data.specs.Value.{Value, boolean, array, items_of, values_of, null}
 use Rattle.jv_data.specs.declared.values.Val.{Val}
 use Rattle.jq_natives.specs.Answers.{is_true}
@@ -12,7 +14,7 @@ use Rattle.jq_meaning.specs.Runs.{Item, plain, alternative, Run, one, fail, bind
 use Rattle.jq_meaning.proofs.shared.machine.RunLaws.{bind-one, bind-bind, bind-one_right, bind-then_run, then_run-assoc, then_run-none}
 use Rattle.jq_single.specs.Single.{Ends, Comes, Keeps, Leaves}
 use Rattle.jq_single.specs.private.Gathering.{GoesOn, Gathers, GathersAll, given_of, made, rest_run, folded, last_or, state_in, turn}
-use Rattle.jq_single.specs.private.Parts.{RunsTo, on_decided, run}
+use Rattle.jq_single.specs.private.Parts.{RunsTo, decided, run}
 use Rattle.jq_single.specs.declared.stops.Stop.{Stop}
 use Rattle.std.proofs.lemmas.List.{append-nil, map-append, reverse-append}
 use Rattle.jv_data.proofs.shared.Items.{values_of-items_of}
@@ -40,9 +42,9 @@ ends-bind stop.Unknown r g e = tt
 pub bind-known : {A B : Type 0} (r : Run A) (x : A) (g : A → Run B) → r ≡ one x → bind r g ≡ g x
 bind-known r x g e = ap (λ q. bind q g) e ∙ bind-one x g
 
-pub comes-bind : {V A B : Type 0} {to : V → Run B} (a : Result V Stop) (r : Run A) (x : A) (g : A → Run B) → r ≡ one x → Comes to a (g x) → Comes to a (bind r g)
-comes-bind (Ok v) r x g e h = bind-known r x g e ∙ h
-comes-bind (Err s) r x g e h = subst (Ends s) (sym (bind-known r x g e)) h
+pub comes-bind : {V A B : Type 0} (to : V → Run B) (a : Result V Stop) (r : Run A) (x : A) (g : A → Run B) → r ≡ one x → Comes to a (g x) → Comes to a (bind r g)
+comes-bind to (Ok v) r x g e h = bind-known r x g e ∙ h
+comes-bind to (Err s) r x g e h = subst (Ends s) (sym (bind-known r x g e)) h
 
 pub ends-after : {A B : Type 0} (s : Stop) (r : Run A) (x : A) (g : A → Run B) → r ≡ one x → Ends s (g x) → Ends s (bind r g)
 ends-after s r x g e = subst (Ends s) (sym (bind-known r x g e))
@@ -55,13 +57,13 @@ leaves_same stop.NoMemory v = tt
 leaves_same stop.Unknown v = refl
 
 -- an error of a part, after `?`
-pub stops : {V B : Type 0} {to : V → Run B} (a : Result V Stop) (s : Stop) (r : Run B) → IsErrAnd a (λ e. e ≡ s) → Ends s r → Comes to a r
-stops (Ok v) s r h k = absurd h
-stops (Err e) s r h k = subst (λ z. Ends z r) (sym h) k
+pub stops : {V B : Type 0} (to : V → Run B) (a : Result V Stop) (s : Stop) (r : Run B) → IsErrAnd a (λ e. e ≡ s) → Ends s r → Comes to a r
+stops to (Ok v) s r h k = absurd h
+stops to (Err e) s r h k = subst (λ z. Ends z r) (sym h) k
 
-pub fails : {V B : Type 0} {to : V → Run B} (a : Result V Stop) (s : Stop) (p : Context) (t : Tree) (v : Value) (g : Item → Run B) (inputs : Run Value) (level : ℕ) → IsErrAnd a (λ e. e ≡ s) → RunsTo p t v (Err s)
+pub fails : {V B : Type 0} (to : V → Run B) (a : Result V Stop) (s : Stop) (p : Context) (t : Tree) (v : Value) (g : Item → Run B) (inputs : Run Value) (level : ℕ) → IsErrAnd a (λ e. e ≡ s) → RunsTo p t v (Err s)
     → Comes to a (bind (run p inputs level t (plain v)) g)
-fails a s p t v g inputs level h k = stops a s (bind (run p inputs level t (plain v)) g) h (ends-bind s (run p inputs level t (plain v)) g (k inputs level))
+fails to a s p t v g inputs level h k = stops to a s (bind (run p inputs level t (plain v)) g) h (ends-bind s (run p inputs level t (plain v)) g (k inputs level))
 
 pub keeps-stops : {A : Type 0} (a : Result A Stop) (s : Stop) (v : Value) → IsErrAnd a (λ e. e ≡ s) → Keeps a v v
 keeps-stops (Ok d) s v h = absurd h
@@ -69,17 +71,24 @@ keeps-stops (Err e) s v h = leaves_same e v
 
 -- ---- conditions
 
-pub decided_by : (by : Bool) (l : Run Item) (w : Value) (right : Item → Run Item) (x : Item) → l ≡ one (plain w) → is_true w ≡ by → bind l (on_decided by right x) ≡ one (plain (boolean by))
-unfolding on_conjunct on_disjunct
-decided_by true l w right x e t = bind-known l (plain w) (on_disjunct right x) e ∙ rw (t, on_disjunct) refl
-decided_by false l w right x e t = bind-known l (plain w) (on_conjunct right x) e ∙ rw (t, on_conjunct) refl
+module _ (p : Context) (inputs : Run Value) (level : ℕ) (t u : Tree) (v : Value) where
+  pub decided_by : (by b : Bool) (w : Value) → run p inputs level t (plain v) ≡ one (plain w) → is_true w ≡ b → beq b by ≡ true → run p inputs level (decided by t u) (plain v) ≡ one (plain (boolean by))
+  unfolding on_conjunct on_disjunct
+  decided_by true true w e k h = bind-known (run p inputs level t (plain v)) (plain w) (on_disjunct (run p inputs level u) (plain v)) e ∙ rw (k, on_disjunct) refl
+  decided_by false false w e k h = bind-known (run p inputs level t (plain v)) (plain w) (on_conjunct (run p inputs level u) (plain v)) e ∙ rw (k, on_conjunct) refl
+  decided_by true false w e k h = absurd (false≢true h)
+  decided_by false true w e k h = absurd (false≢true h)
 
-pub decided_else : (by b : Bool) (l : Run Item) (w : Value) (right : Item → Run Item) (x : Item) → l ≡ one (plain w) → is_true w ≡ b → (b ≡ by → ⊥) → bind l (on_decided by right x) ≡ bind (right x) truth
-unfolding on_conjunct on_disjunct
-decided_else true true l w right x e t h = absurd (h refl)
-decided_else true false l w right x e t h = bind-known l (plain w) (on_disjunct right x) e ∙ rw (t, on_disjunct) refl
-decided_else false true l w right x e t h = bind-known l (plain w) (on_conjunct right x) e ∙ rw (t, on_conjunct) refl
-decided_else false false l w right x e t h = absurd (h refl)
+  pub decided_else : (by b : Bool) (w : Value) → run p inputs level t (plain v) ≡ one (plain w) → is_true w ≡ b → beq b by ≡ false → run p inputs level (decided by t u) (plain v) ≡ bind (run p inputs level u (plain v)) truth
+  unfolding on_conjunct on_disjunct
+  decided_else true false w e k h = bind-known (run p inputs level t (plain v)) (plain w) (on_disjunct (run p inputs level u) (plain v)) e ∙ rw (k, on_disjunct) refl
+  decided_else false true w e k h = bind-known (run p inputs level t (plain v)) (plain w) (on_conjunct (run p inputs level u) (plain v)) e ∙ rw (k, on_conjunct) refl
+  decided_else true true w e k h = absurd (false≢true (sym h))
+  decided_else false false w e k h = absurd (false≢true (sym h))
+
+  pub decided_stops : (by : Bool) (s : Stop) → Ends s (run p inputs level t (plain v)) → Ends s (run p inputs level (decided by t u) (plain v))
+  decided_stops true s h = ends-bind s (run p inputs level t (plain v)) (on_disjunct (run p inputs level u) (plain v)) h
+  decided_stops false s h = ends-bind s (run p inputs level t (plain v)) (on_conjunct (run p inputs level u) (plain v)) h
 
 pub truth_of : (l : Run Item) (w : Value) (b : Bool) → l ≡ one (plain w) → b ≡ is_true w → bind l truth ≡ one (plain (boolean b))
 unfolding truth
@@ -88,8 +97,8 @@ truth_of l w b e t = bind-known l (plain w) truth e ∙ ap (λ c. one (plain (bo
 -- ---- errors
 
 pub alternative_known : (b : Bool) (r : Run Item) (g : Item → Run Item) (x : Item) (w : Value) → r ≡ one (plain w) → is_true w ≡ b → alternative r g x ≡ (if b then one (plain w) else g x)
-alternative_known true r g x w e t = ap (λ q. alternative q g x) e ∙ rw t refl
-alternative_known false r g x w e t = ap (λ q. alternative q g x) e ∙ rw t refl
+alternative_known true r g x w e t = ap (λ q. alternative q g x) e ∙ rw (t, alternative) refl
+alternative_known false r g x w e t = ap (λ q. alternative q g x) e ∙ rw (t, alternative) refl
 
 pub caught : (r : Run Item) (v w : Value) (handler : Item → Run Item) → r ≡ fail w → catch r (on_error handler (plain v)) ≡ handler (plain w)
 unfolding on_error

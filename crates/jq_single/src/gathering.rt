@@ -34,11 +34,18 @@ use jq_state::steps::Operation;
 use jv_data::{NoMemory, Val};
 use std::alloc::Global;
 
-/// Items that are given one by one: those of a vector, the last one first, or whole numbers up to but not including an end.
+/// Items that are given one by one: those of a vector, the last one first, or whole numbers.
 #[derive(Drop)]
 pub(crate) enum Supply {
     Items(Vec<Item>),
-    Numbers(Option<i64>, i64),
+    Numbers(Numbers),
+}
+
+/// The whole numbers from `next` on, if there is one, up to but not including `end`.
+#[derive(Drop)]
+pub(crate) struct Numbers {
+    next: Option<i64>,
+    end: i64,
 }
 
 impl<'s> Context<'s> {
@@ -545,8 +552,11 @@ impl<'s> Context<'s> {
     {
         match (start, end) {
             (Val::Num(start), Val::Num(end)) => {
-                let numbers = Supply::Numbers(Some(*start), *end);
-                self.give_all(numbers, rest, into)
+                let numbers = Numbers {
+                    next: Some(*start),
+                    end: *end,
+                };
+                self.give_all(Supply::Numbers(numbers), rest, into)
             }
             _ => Err(Stop::Unknown),
         }
@@ -579,7 +589,7 @@ fn take_item(supply: &mut Supply) -> Option<Item>
 {
     match supply {
         Supply::Items(items) => take_last(items),
-        Supply::Numbers(next, end) => match take_number(next, *end) {
+        Supply::Numbers(numbers) => match take_number(numbers) {
             Some(value) => Some(Item::plain(value)),
             None => None,
         },
@@ -605,14 +615,14 @@ pub(crate) fn start_at(alloc: Global, value: &Val) -> Result<Item, NoMemory>
     Ok(Item { value, path })
 }
 
-// Takes the number out of `next` and puts in the one after it, if it is before `end`.
-fn take_number(next: &mut Option<i64>, end: i64) -> Option<Val>
-    ensures { MatchOption result (numbers_from next.old end ≡ none) (λ v. numbers_from next.old end ≡ before (plain (view v) ∷ []) (numbers_from next.new end)) }
+// Takes the first number out.
+fn take_number(numbers: &mut Numbers) -> Option<Val>
+    ensures { MatchOption result (numbers_from numbers.old ≡ none) (λ v. numbers_from numbers.old ≡ before (plain (view v) ∷ []) (numbers_from numbers.new)) }
 {
-    let number = (*next)?;
-    if !is_before(number, end, 1) {
+    let number = numbers.next?;
+    if !is_before(number, numbers.end, 1) {
         return None;
     }
-    *next = number_after(number, end, 1);
+    numbers.next = number_after(number, numbers.end, 1);
     Some(Val::Num(number))
 }

@@ -2,7 +2,7 @@
 ghost use Rattle.std.specs.Prelude.{ℕ, List, []};
 ghost use Rattle.jv_data.specs.View.{view};
 ghost use Rattle.jq_ast.specs.Named.{named, name_of, named_entry};
-ghost use Rattle.jq_single.specs.private.Parts.{RunsTo, Answers, Decides, Follows, GetsTwo};
+ghost use Rattle.jq_single.specs.private.Parts.{RunsTo, Answers, Follows, GetsTwo, decided};
 ghost use Rattle.jq_meaning.specs.Continuations.{on_target, format_of, put_between, text_item};
 ghost use Rattle.jq_meaning.specs.Runs.{plain, bind};
 ghost use Rattle.jv_data.specs.Shared.{text_in};
@@ -205,7 +205,7 @@ impl<'s> Context<'s> {
     #[cycle(single)]
     #[inline(never)]
     fn decided(&self, by: bool, left: &'s Tree, right: &'s Tree, value: &Val) -> Result<Val, Stop>
-        ensures { Decides self.now by (named left.now) (named right.now) (view value.now) result }
+        ensures { RunsTo self.now (decided by (named left.now) (named right.now)) (view value.now) result }
     {
         let first = self.get(left, value)?;
         if truth(&first) == by {

@@ -1,5 +1,5 @@
 -- What the outputs of a filter add to a list.
-use Rattle.std.specs.Prelude.{◌≡◌, ℕ, ℤ, pos, List, [], ◌∷◌, ◌++◌, map, reverse, Option, Some, None, Result, Ok, Err}
+use Rattle.std.specs.Prelude.{◌≡◌, ℕ, pos, List, [], ◌∷◌, ◌++◌, map, reverse, Some, None, Result, Ok, Err}
 use Rattle.jv_data.specs.Value.{Value, null, array, items_of, string}
 use Rattle.jv_data.specs.Text.{text_of}
 use Rattle.jv_data.specs.View.{view}
@@ -21,6 +21,7 @@ use Rattle.jq_single.specs.Single.{Changed, Comes, Ends}
 use Rattle.jq_single.specs.private.Parts.{ChangesTo, body_in, builtin_in, run}
 use Rattle.jq_single.specs.private.Scopes.{scope_env}
 use Rattle.jq_single.specs.declared.contexts.Context.{Context}
+use Rattle.jq_single.specs.declared.gathering.Numbers.{Numbers}
 use Rattle.jq_single.specs.declared.gathering.Supply.{Supply}
 use Rattle.jq_single.specs.declared.gathering.Supply.TheVariants as supply
 use Rattle.jq_single.specs.declared.rests.Rest.{Rest}
@@ -97,14 +98,13 @@ abbrev pub given_of : List items.Item → Run Item
 given_of xs = record { items = reverse (map item_of xs); ending = Done }
 
 -- the whole numbers from a first one on, if there is one
-abbrev pub numbers_from : Option ℤ → (end : ℤ) → Run Item
-numbers_from None end = none
-numbers_from (Some n) end = numbers_up_to n end (pos 1)
+abbrev pub numbers_from : Numbers → Run Item
+numbers_from ns = elim ns.next [ None ↦ none | Some n ↦ numbers_up_to n ns.end (pos 1) ]
 
 -- the items of a supply
 abbrev pub supplied : Supply → Run Item
 supplied (supply.Items xs) = given_of xs.items
-supplied (supply.Numbers next end) = numbers_from next end
+supplied (supply.Numbers ns) = numbers_from ns
 
 -- ---- folds
 

@@ -6,9 +6,8 @@ use Rattle.jv_data.specs.View.{view}
 use Rattle.jv_data.specs.declared.values.Val.{Val}
 use Rattle.jq_ast.specs.Named.{named}
 use Rattle.jq_ast.specs.declared.tree.Tree as ast
-use Rattle.jq_tree.specs.Tree.{Tree, Trees, trees_of}
+use Rattle.jq_tree.specs.Tree.{Tree, Trees, conjunction, disjunction, trees_of}
 use Rattle.jq_meaning.specs.Builtins.{Builtin, builtin_run, each_choice, plain_native}
-use Rattle.jq_meaning.specs.Continuations.{on_conjunct, on_disjunct}
 use Rattle.jq_meaning.specs.Env.{find_inputs}
 use Rattle.jq_meaning.specs.Meaning.{arguments_with, below, meaning}
 use Rattle.jq_meaning.specs.Runs.{Item, plain, Run, one, bind}
@@ -55,12 +54,9 @@ GetsTwo p t u v result =
     → Comes (λ two. g (plain (view two.0)) (plain (view two.1))) result (bind (run p inputs level t (plain v)) (λ x. bind (run p inputs level u (plain v)) (g x)))
 
 -- `or` if true decides, and else `and`.
-abbrev pub on_decided : (by : Bool) → (Item → Run Item) → Item → Item → Run Item
-on_decided true right x = on_disjunct right x
-on_decided false right x = on_conjunct right x
-
-abbrev pub Decides : Context → (by : Bool) → (left right : Tree) → Value → Result Val Stop → Type 0
-Decides p by t u v result = (inputs : Run Value) (level : ℕ) → Answers result (bind (run p inputs level t (plain v)) (on_decided by (run p inputs level u) (plain v)))
+abbrev pub decided : (by : Bool) → (left right : Tree) → Tree
+decided true t u = disjunction t u
+decided false t u = conjunction t u
 
 -- ---- names of the language
 

@@ -1,4 +1,4 @@
-use Rattle.std.proofs.Common.{◌≡◌, ◌∙◌, map, Result, Ok, Err, IfOk, ap, sym}
+use Rattle.std.proofs.Common.{◌≡◌, ◌∙◌, map, Result, Ok, Err, IfOk, ap, sym, refl}
 use Rattle.jv_data.specs.Text.{text_of}
 use Rattle.jv_data.specs.Value.{Value}
 use Rattle.jv_data.specs.View.{view}

@@ -1,4 +1,4 @@
-use Rattle.std.proofs.Common.{rules, Ok, Err, [], ◌∷◌, List, ℕ, suc, ◌≡◌, ◌∙◌, ◌-◌, arith, length, map, true, false, refl, sym, ap, subst}
+use Rattle.std.proofs.Common.{rules, Ok, Err, [], ◌∷◌, List, ℕ, suc, ◌≡◌, ◌∙◌, ◌-◌, arith, length, map, true, refl, sym, ap, subst}
 use Rattle.std.proofs.Math.Logic.{∥∥₁_elim}
 use Rattle.std.specs.Str.{chars}
 use Rattle.jv_arith.specs.Arith.{neg_of}
@@ -35,10 +35,10 @@ use Rattle.jq_state.proofs.shared.Items.{absent, value_of_item}
 use Rattle.jq_single.specs.private.Making.{Adds, entries_in}
 use Rattle.jq_single.specs.private.Updates.{listed, part_run, path_run}
 use Rattle.jq_meaning.specs.laws.Updating.{turn_of, turns}
-use Rattle.jq_single.specs.private.Parts.{Answers, Calls, ChangesTo, builtin_in, on_decided, run}
+use Rattle.jq_single.specs.private.Parts.{Answers, Calls, ChangesTo, builtin_in, run}
 use Rattle.jq_single.specs.Single.{Changed, Ends}
 use Rattle.jq_single.specs.private.FirstOutputs.{first_alone}
-use Rattle.jq_single.proofs.Binding.{bind-known, comes-bind, ends-bind, fails, ends-after, keeps-stops, leaves_same, stops, alternative_known, decided_by, decided_else, truth_of, caught, with_variable, gathers-none, gathers-then, gathers-fail, gathers_all, gives_first, stops_first, stops-then, gathered_list, bound_rest, picks_holds, picks_fails, fold_value, turned, fold_ends, single_fold}
+use Rattle.jq_single.proofs.Binding.{bind-known, comes-bind, ends-bind, fails, ends-after, keeps-stops, leaves_same, stops, alternative_known, decided_by, decided_else, decided_stops, truth_of, caught, with_variable, gathers-none, gathers-then, gathers-fail, gathers_all, gives_first, stops_first, stops-then, gathered_list, bound_rest, picks_holds, picks_fails, fold_value, turned, fold_ends, single_fold}
 use Rattle.jq_single.specs.declared.rests.Rest.{Rest}
 use Rattle.jq_single.specs.declared.rests.Rest.TheVariants as rest
 use Rattle.jq_single.proofs.UpdateTurns.{changed-first, first-then, changed-prop, getpath_keys, known_paths, listed_more, modify_tree, turn_lists, turn_raises, turn_sets, two_calls_deep}
@@ -86,29 +86,29 @@ get_two-returns t c = λ inputs level g.
     ∙ bind-known (go (named c.args.second.now) v) (plain (view c.in_ok-other.other)) (g (plain (view c.in_ok-one.one))) (c.in_ok-other.ensures inputs level)
 
 pub get_two-returns-in_err-one : goal.get_two-returns-in_err-one
-get_two-returns-in_err-one t c = λ inputs level g. fails c.from_residual.result c.in_err-one.field-0.0 c.args.self.now (named c.args.first.now) (view c.args.value.now) (λ x. bind (run c.args.self.now inputs level (named c.args.second.now) (plain (view c.args.value.now))) (g x)) inputs level c.from_residual.ensures.1 c.in_err-one.ensures
+get_two-returns-in_err-one t c = λ inputs level g. fails _ c.from_residual.result c.in_err-one.field-0.0 c.args.self.now (named c.args.first.now) (view c.args.value.now) (λ x. bind (run c.args.self.now inputs level (named c.args.second.now) (plain (view c.args.value.now))) (g x)) inputs level c.from_residual.ensures.1 c.in_err-one.ensures
 
 pub get_two-returns-in_err-other : goal.get_two-returns-in_err-other
 get_two-returns-in_err-other t c = λ inputs level g.
     let go : Tree → Item → Run Item = run c.args.self.now inputs level in
     let v = plain (view c.args.value.now) in
     let s = c.in_err-other.field-0.0 in
-    stops c.from_residual-in_err-other.result s _ c.from_residual-in_err-other.ensures.1
+    stops _ c.from_residual-in_err-other.result s _ c.from_residual-in_err-other.ensures.1
     (ends-after s (go (named c.args.first.now) v) (plain (view c.in_ok-one.one)) (λ x. bind (go (named c.args.second.now) v) (g x)) (c.in_ok-one.ensures inputs level)
     (ends-bind s (go (named c.args.second.now) v) (g (plain (view c.in_ok-one.one))) (c.in_err-other.ensures inputs level)))
 
 pub field-returns-in_err-found : goal.field-returns-in_err-found
-field-returns-in_err-found t c = λ inputs level. fails c.from_residual.result c.in_err-found.field-0.0 c.args.self.now (named c.args.target.now) (view c.args.value.now) (on_target c.args.guarded (view c.args.key.now)) inputs level c.from_residual.ensures.1 c.in_err-found.ensures
+field-returns-in_err-found t c = λ inputs level. fails _ c.from_residual.result c.in_err-found.field-0.0 c.args.self.now (named c.args.target.now) (view c.args.value.now) (on_target c.args.guarded (view c.args.key.now)) inputs level c.from_residual.ensures.1 c.in_err-found.ensures
 
 pub index-returns : goal.index-returns
 unfolding on_key
 index-returns t c = λ inputs level.
     let v = plain (view c.args.value.now) in
     let go : Tree → Item → Run Item = run c.args.self.now inputs level in
-    comes-bind c.field.result (go (named c.args.key.now) v) (plain (view c.in_ok-at.at)) (on_key c.args.guarded (go (named c.args.target.now) v)) (c.in_ok-at.ensures inputs level) (c.field.ensures inputs level)
+    comes-bind _ c.field.result (go (named c.args.key.now) v) (plain (view c.in_ok-at.at)) (on_key c.args.guarded (go (named c.args.target.now) v)) (c.in_ok-at.ensures inputs level) (c.field.ensures inputs level)
 
 pub index-returns-in_err-at : goal.index-returns-in_err-at
-index-returns-in_err-at t c = λ inputs level. fails c.from_residual.result c.in_err-at.field-0.0 c.args.self.now (named c.args.key.now) (view c.args.value.now) (on_key c.args.guarded (run c.args.self.now inputs level (named c.args.target.now) (plain (view c.args.value.now)))) inputs level c.from_residual.ensures.1 c.in_err-at.ensures
+index-returns-in_err-at t c = λ inputs level. fails _ c.from_residual.result c.in_err-at.field-0.0 c.args.self.now (named c.args.key.now) (view c.args.value.now) (on_key c.args.guarded (run c.args.self.now inputs level (named c.args.target.now) (plain (view c.args.value.now)))) inputs level c.from_residual.ensures.1 c.in_err-at.ensures
 
 pub slice-returns : goal.slice-returns
 unfolding on_start on_end
@@ -121,49 +121,46 @@ pub slice-returns-in_err-start : goal.slice-returns-in_err-start
 unfolding on_start
 slice-returns-in_err-start t c = λ inputs level.
     let targets = run c.args.self.now inputs level (named c.args.target.now) (plain (view c.args.value.now)) in
-    stops c.from_residual.result c.in_err-start.field-0.0 _ c.from_residual.ensures.1 (c.in_err-start.ensures inputs level (λ x. on_end c.args.guarded targets (value_in x)))
+    stops _ c.from_residual.result c.in_err-start.field-0.0 _ c.from_residual.ensures.1 (c.in_err-start.ensures inputs level (λ x. on_end c.args.guarded targets (value_in x)))
 
 -- ---- values of parts
 
 pub pipe-returns-in_err-between : goal.pipe-returns-in_err-between
-pipe-returns-in_err-between t c = λ inputs level. fails c.from_residual.result c.in_err-between.field-0.0 c.args.self.now (named c.args.first.now) (view c.args.value.now) (run c.args.self.now inputs level (named c.args.second.now)) inputs level c.from_residual.ensures.1 c.in_err-between.ensures
+pipe-returns-in_err-between t c = λ inputs level. fails _ c.from_residual.result c.in_err-between.field-0.0 c.args.self.now (named c.args.first.now) (view c.args.value.now) (run c.args.self.now inputs level (named c.args.second.now)) inputs level c.from_residual.ensures.1 c.in_err-between.ensures
 
 pub negation-returns : goal.negation-returns
 unfolding negated
 negation-returns t c = λ inputs level.
     let w = view c.in_ok-found.found in
-    comes-bind c.answer.result (run c.args.self.now inputs level (named c.args.operand.now) (plain (view c.args.value.now))) (plain w) negated (c.in_ok-found.ensures inputs level) (c.answer.ensures (neg_of w) c.neg.ensures)
+    comes-bind _ c.answer.result (run c.args.self.now inputs level (named c.args.operand.now) (plain (view c.args.value.now))) (plain w) negated (c.in_ok-found.ensures inputs level) (c.answer.ensures (neg_of w) c.neg.ensures)
 
 pub negation-returns-in_err-found : goal.negation-returns-in_err-found
-negation-returns-in_err-found t c = λ inputs level. fails c.from_residual.result c.in_err-found.field-0.0 c.args.self.now (named c.args.operand.now) (view c.args.value.now) negated inputs level c.from_residual.ensures.1 c.in_err-found.ensures
+negation-returns-in_err-found t c = λ inputs level. fails _ c.from_residual.result c.in_err-found.field-0.0 c.args.self.now (named c.args.operand.now) (view c.args.value.now) negated inputs level c.from_residual.ensures.1 c.in_err-found.ensures
 
 -- ---- conditions
 
 pub decided-returns-then-truth-by : goal.decided-returns-then-truth-by
 decided-returns-then-truth-by t c = λ inputs level.
-    let v = plain (view c.args.value.now) in
-    let go : Tree → Item → Run Item = run c.args.self.now inputs level in
-    decided_by c.args.by (go (named c.args.left.now) v) (view c.in_ok-first.first) (go (named c.args.right.now)) v (c.in_ok-first.ensures inputs level) (sym c.truth.ensures ∙ c.if-truth-by.true)
+    decided_by c.args.self.now inputs level (named c.args.left.now) (named c.args.right.now) (view c.args.value.now) c.args.by c.truth.result (view c.in_ok-first.first) (c.in_ok-first.ensures inputs level) (sym c.truth.ensures) c.if-truth-by.true
     ∙ ap (λ (w : Value). one (plain w)) (sym (view-Bool c.args.by))
 
 pub decided-returns : goal.decided-returns
 decided-returns t c = λ inputs level.
-    let v = plain (view c.args.value.now) in
-    let go : Tree → Item → Run Item = run c.args.self.now inputs level in
-    decided_else c.args.by c.truth.result (go (named c.args.left.now) v) (view c.in_ok-first.first) (go (named c.args.right.now)) v (c.in_ok-first.ensures inputs level) (sym c.truth.ensures) c.if-truth-by.false
-    ∙ truth_of (go (named c.args.right.now) v) (view c.in_ok-second.second) c.truth-2.result (c.in_ok-second.ensures inputs level) c.truth-2.ensures ∙ ap (λ (w : Value). one (plain w)) (sym (view-Bool c.truth-2.result))
+    decided_else c.args.self.now inputs level (named c.args.left.now) (named c.args.right.now) (view c.args.value.now) c.args.by c.truth.result (view c.in_ok-first.first) (c.in_ok-first.ensures inputs level) (sym c.truth.ensures) c.if-truth-by.false
+    ∙ truth_of (run c.args.self.now inputs level (named c.args.right.now) (plain (view c.args.value.now))) (view c.in_ok-second.second) c.truth-2.result (c.in_ok-second.ensures inputs level) c.truth-2.ensures ∙ ap (λ (w : Value). one (plain w)) (sym (view-Bool c.truth-2.result))
 
 pub decided-returns-in_err-first : goal.decided-returns-in_err-first
-decided-returns-in_err-first t c = λ inputs level. fails c.from_residual.result c.in_err-first.field-0.0 c.args.self.now (named c.args.left.now) (view c.args.value.now) (on_decided c.args.by (run c.args.self.now inputs level (named c.args.right.now)) (plain (view c.args.value.now))) inputs level c.from_residual.ensures.1 c.in_err-first.ensures
+decided-returns-in_err-first t c = λ inputs level.
+    let s = c.in_err-first.field-0.0 in
+    stops _ c.from_residual.result s _ c.from_residual.ensures.1
+    (decided_stops c.args.self.now inputs level (named c.args.left.now) (named c.args.right.now) (view c.args.value.now) c.args.by s (c.in_err-first.ensures inputs level))
 
 pub decided-returns-in_err-second : goal.decided-returns-in_err-second
 decided-returns-in_err-second t c = λ inputs level.
-    let v = plain (view c.args.value.now) in
-    let go : Tree → Item → Run Item = run c.args.self.now inputs level in
     let s = c.in_err-second.field-0.0 in
-    stops c.from_residual-in_err-second.result s _ c.from_residual-in_err-second.ensures.1
-    (subst (Ends s) (sym (decided_else c.args.by c.truth.result (go (named c.args.left.now) v) (view c.in_ok-first.first) (go (named c.args.right.now)) v (c.in_ok-first.ensures inputs level) (sym c.truth.ensures) c.if-truth-by.false))
-    (ends-bind s (go (named c.args.right.now) v) truth (c.in_err-second.ensures inputs level)))
+    stops _ c.from_residual-in_err-second.result s _ c.from_residual-in_err-second.ensures.1
+    (subst (Ends s) (sym (decided_else c.args.self.now inputs level (named c.args.left.now) (named c.args.right.now) (view c.args.value.now) c.args.by c.truth.result (view c.in_ok-first.first) (c.in_ok-first.ensures inputs level) (sym c.truth.ensures) c.if-truth-by.false))
+    (ends-bind s (run c.args.self.now inputs level (named c.args.right.now) (plain (view c.args.value.now))) truth (c.in_err-second.ensures inputs level)))
 
 -- ---- `//` and `try`
 
@@ -172,14 +169,6 @@ alternative-returns-then-truth t c = λ inputs level.
     let v = plain (view c.args.value.now) in
     let go : Tree → Item → Run Item = run c.args.self.now inputs level in
     alternative_known true (go (named c.args.left.now) v) (go (named c.args.right.now)) v (view c.in-Ok.found) (c.in-Ok.ensures inputs level) (sym c.truth.ensures ∙ c.if-truth.true)
-
-pub alternative-returns-in-Ok : goal.alternative-returns-in-Ok
-alternative-returns-in-Ok t c = λ inputs level.
-    let v = plain (view c.args.value.now) in
-    let go : Tree → Item → Run Item = run c.args.self.now inputs level in
-    subst (Answers c.get-else-truth.result)
-    (sym (alternative_known false (go (named c.args.left.now) v) (go (named c.args.right.now)) v (view c.in-Ok.found) (c.in-Ok.ensures inputs level) (sym c.truth.ensures ∙ c.if-truth.false)))
-    (c.get-else-truth.ensures inputs level)
 
 pub alternative-returns-in-Err-Nothing : goal.alternative-returns-in-Err-Nothing
 alternative-returns-in-Err-Nothing t c = λ inputs level.
@@ -279,8 +268,8 @@ change_binary-returns-in-Ok-clause-runs t c = λ inputs level.
     let go : Tree → Item → Run Item = run c.args.self.now inputs level in
     let op = operator_of c.args.operator in
     let w = view c.operate_in_place.new.left in
-    comes-bind c.operate_in_place.result (go (named c.args.right.now) v) (plain (view c.in_ok-second.second)) (on_right op (go (named c.args.left.now) v)) (c.in_ok-second.ensures inputs level)
-    (comes-bind c.operate_in_place.result (go (named c.args.left.now) v) (plain (view c.change.new.value)) (on_left op (view c.in_ok-second.second)) (c.in-Ok.ensures.runs inputs level) c.operate_in_place.ensures.runs)
+    comes-bind _ c.operate_in_place.result (go (named c.args.right.now) v) (plain (view c.in_ok-second.second)) (on_right op (go (named c.args.left.now) v)) (c.in_ok-second.ensures inputs level)
+    (comes-bind _ c.operate_in_place.result (go (named c.args.left.now) v) (plain (view c.change.new.value)) (on_left op (view c.in_ok-second.second)) (c.in-Ok.ensures.runs inputs level) c.operate_in_place.ensures.runs)
 
 pub change_binary-returns-in-Ok-clause-keeps : goal.change_binary-returns-in-Ok-clause-keeps
 change_binary-returns-in-Ok-clause-keeps t c = c.operate_in_place.ensures.keeps (view c.args.value.now)
@@ -295,7 +284,7 @@ change_binary-returns-clause-runs t c = λ inputs level.
     (ends-bind c.in-Err.stop (go (named c.args.left.now) v) (on_left op (view c.in_ok-second.second)) (c.in-Err.ensures.runs inputs level))
 
 pub change_binary-returns-in_err-second-clause-runs : goal.change_binary-returns-in_err-second-clause-runs
-change_binary-returns-in_err-second-clause-runs t c = λ inputs level. fails c.from_residual.result c.in_err-second.field-0.0 c.args.self.now (named c.args.right.now) (view c.args.value.now) (on_right (operator_of c.args.operator) (run c.args.self.now inputs level (named c.args.left.now) (plain (view c.args.value.now)))) inputs level c.from_residual.ensures.1 c.in_err-second.ensures
+change_binary-returns-in_err-second-clause-runs t c = λ inputs level. fails _ c.from_residual.result c.in_err-second.field-0.0 c.args.self.now (named c.args.right.now) (view c.args.value.now) (on_right (operator_of c.args.operator) (run c.args.self.now inputs level (named c.args.left.now) (plain (view c.args.value.now)))) inputs level c.from_residual.ensures.1 c.in_err-second.ensures
 
 pub change_binary-returns-in_err-second-clause-keeps : goal.change_binary-returns-in_err-second-clause-keeps
 change_binary-returns-in_err-second-clause-keeps t c = keeps-stops c.from_residual.result c.in_err-second.field-0.0 (view c.args.value.now) c.from_residual.ensures.1
@@ -317,7 +306,7 @@ change_choice-returns-clause-runs t c = λ inputs level.
     (c.change-else-truth.ensures.runs inputs level)
 
 pub change_choice-returns-in_err-test-clause-runs : goal.change_choice-returns-in_err-test-clause-runs
-change_choice-returns-in_err-test-clause-runs t c = λ inputs level. fails c.from_residual.result c.in_err-test.field-0.0 c.args.self.now (named c.args.condition.now) (view c.args.value.now) (on_test (run c.args.self.now inputs level (named c.args.holds.now)) (run c.args.self.now inputs level (named c.args.fails.now)) (plain (view c.args.value.now))) inputs level c.from_residual.ensures.1 c.in_err-test.ensures
+change_choice-returns-in_err-test-clause-runs t c = λ inputs level. fails _ c.from_residual.result c.in_err-test.field-0.0 c.args.self.now (named c.args.condition.now) (view c.args.value.now) (on_test (run c.args.self.now inputs level (named c.args.holds.now)) (run c.args.self.now inputs level (named c.args.fails.now)) (plain (view c.args.value.now))) inputs level c.from_residual.ensures.1 c.in_err-test.ensures
 
 pub change_choice-returns-in_err-test-clause-keeps : goal.change_choice-returns-in_err-test-clause-keeps
 change_choice-returns-in_err-test-clause-keeps t c = keeps-stops c.from_residual.result c.in_err-test.field-0.0 (view c.args.value.now) c.from_residual.ensures.1
@@ -338,7 +327,7 @@ array-returns t c = λ inputs level.
     ∙ ap (λ (v : Value). one (plain v)) (ap (λ (xs : List Val). array (items_of (map view xs))) (sym c.in_ok-from_vec.ensures) ∙ sym (view-List c.in_ok-from_vec.field-0))
 
 pub array-returns-in_err-collect : goal.array-returns-in_err-collect
-array-returns-in_err-collect t c = λ inputs level. stops c.from_residual.result c.in_err-collect.field-0.0 _ c.from_residual.ensures.1 (c.in_err-collect.ensures inputs level)
+array-returns-in_err-collect t c = λ inputs level. stops _ c.from_residual.result c.in_err-collect.field-0.0 _ c.from_residual.ensures.1 (c.in_err-collect.ensures inputs level)
 
 pub gather-returns-in-Call : goal.gather-returns-in-Call
 gather-returns-in-Call t c =
@@ -607,8 +596,8 @@ gather_range-returns-in-Ok t c = λ inputs level.
     subst (λ q. Gathers (made inputs level c.args.rest.now) c.give_range.result c.args.into.now.items c.give_range.new.into.items (bind q (rest_run inputs level c.args.rest.now)))
     (sym (same ∙ c.in-Ok.ensures inputs level g)) (c.give_range.ensures inputs level)
 
-pub gather_range-returns-in-len2 : goal.gather_range-returns-in-len2
-gather_range-returns-in-len2 t c = λ inputs level.
+pub gather_range-returns-in-Err : goal.gather_range-returns-in-Err
+gather_range-returns-in-Err t c = λ inputs level.
     let p = c.args.self.now in
     let ts = c.args.arguments.now in
     let v = view c.args.value.now in
@@ -636,8 +625,8 @@ first_piece-returns t c = λ inputs level.
     let back = text_in c.in_ok-back.back in
     let expected = format_of f (view c.in_ok-found.found) in
     let made = c.in_ok-text_in_format.field-0 in
-    comes-bind c.inserted.result later back (on_back f front filter) (c.in_ok-back.ensures inputs level)
-    (comes-bind c.inserted.result filter (plain (view c.in_ok-found.found)) (on_inserted f front back) (c.in_ok-found.ensures inputs level)
+    comes-bind _ c.inserted.result later back (on_back f front filter) (c.in_ok-back.ensures inputs level)
+    (comes-bind _ c.inserted.result filter (plain (view c.in_ok-found.found)) (on_inserted f front back) (c.in_ok-found.ensures inputs level)
     (c.inserted.ensures front back expected (subst (λ (bs : List ℕ). Inserts (chars bs) expected back made) c.as_str-front.ensures.value (subst (λ (bs : List ℕ). Inserts (chars c.as_str-front.result.now) expected (chars bs) made) c.as_str.ensures c.in_ok-text_in_format.ensures))))
 
 pub first_piece-returns-in_err-back : goal.first_piece-returns-in_err-back
@@ -649,7 +638,7 @@ first_piece-returns-in_err-back t c = λ inputs level.
     let later = pieces_with (below p.depth) (named_pieces c.args.later.now c.args.last.now) f (scope_env inputs p.scope.now) level x in
     let filter = run p inputs level (named piece.tree) x in
     let front = text_of piece.before in
-    stops c.from_residual.result c.in_err-back.field-0.0 _ c.from_residual.ensures.1
+    stops _ c.from_residual.result c.in_err-back.field-0.0 _ c.from_residual.ensures.1
     (ends-bind c.in_err-back.field-0.0 later (on_back f front filter) (c.in_err-back.ensures inputs level))
 
 pub first_piece-returns-in_err-found : goal.first_piece-returns-in_err-found
@@ -664,7 +653,7 @@ first_piece-returns-in_err-found t c = λ inputs level.
     let front = text_of piece.before in
     let s = c.in_err-found.field-0.0 in
     let back = text_in c.in_ok-back.back in
-    stops c.from_residual-in_err-found.result s _ c.from_residual-in_err-found.ensures.1
+    stops _ c.from_residual-in_err-found.result s _ c.from_residual-in_err-found.ensures.1
     (ends-after s later back (on_back f front filter) (c.in_ok-back.ensures inputs level)
     (ends-bind s filter (on_inserted f front back) (c.in_err-found.ensures inputs level)))
 
@@ -687,14 +676,14 @@ computed-returns t c = λ inputs level es.
     let v = view c.args.value.now in
     let made = members_in c.args.made in
     let later : Members → Run Item = entries_in p inputs level es v in
-    comes-bind c.keyed.result (run p inputs level (named c.args.key.now) (plain v)) (plain (view c.in_ok-found.found)) (on_entry_key (run p inputs level (named c.args.filter.now) (plain v)) later made)
+    comes-bind _ c.keyed.result (run p inputs level (named c.args.key.now) (plain v)) (plain (view c.in_ok-found.found)) (on_entry_key (run p inputs level (named c.args.filter.now) (plain v)) later made)
     (c.in_ok-found.ensures inputs level) (c.keyed.ensures inputs level later)
 
 pub keyed-returns : goal.keyed-returns
 keyed-returns t c = λ inputs level later. rw c.into_text.ensures (c.member.ensures inputs level later)
 
 pub computed-returns-in_err-found : goal.computed-returns-in_err-found
-computed-returns-in_err-found t c = λ inputs level es. fails c.from_residual.result c.in_err-found.field-0.0 c.args.self.now (named c.args.key.now) (view c.args.value.now) (on_entry_key (run c.args.self.now inputs level (named c.args.filter.now) (plain (view c.args.value.now))) (entries_in c.args.self.now inputs level es (view c.args.value.now)) (members_in c.args.made)) inputs level c.from_residual.ensures.1 c.in_err-found.ensures
+computed-returns-in_err-found t c = λ inputs level es. fails _ c.from_residual.result c.in_err-found.field-0.0 c.args.self.now (named c.args.key.now) (view c.args.value.now) (on_entry_key (run c.args.self.now inputs level (named c.args.filter.now) (plain (view c.args.value.now))) (entries_in c.args.self.now inputs level es (view c.args.value.now)) (members_in c.args.made)) inputs level c.from_residual.ensures.1 c.in_err-found.ensures
 
 pub member-returns : goal.member-returns
 unfolding on_entry
@@ -703,7 +692,7 @@ member-returns t c = λ inputs level later.
     ∙ ap later (sym c.in_ok-with_member.ensures)
 
 pub member-returns-in_err-found : goal.member-returns-in_err-found
-member-returns-in_err-found t c = λ inputs level later. fails c.from_residual.result c.in_err-found.field-0.0 c.args.self.now (named c.args.filter.now) (view c.args.value.now) (on_entry later (members_in c.args.made) (text_in c.args.key.now)) inputs level c.from_residual.ensures.1 c.in_err-found.ensures
+member-returns-in_err-found t c = λ inputs level later. fails _ c.from_residual.result c.in_err-found.field-0.0 c.args.self.now (named c.args.filter.now) (view c.args.value.now) (on_entry later (members_in c.args.made) (text_in c.args.key.now)) inputs level c.from_residual.ensures.1 c.in_err-found.ensures
 
 -- ---- folds
 
@@ -756,7 +745,7 @@ change_fold-returns-in-Some-clause-runs t c = λ is inputs level.
     let same : gathered r ≡ one (plain (array (items_of (view single ∷ [])))) =
     c.in-Ok.ensures inputs level ∙ ap (λ (xs : List Val). one (plain (array (items_of (map view xs))))) (sym c.as_slice.ensures.value ∙ c.in-Some.ensures) in
     subst (λ (s : Tree). Changed c.step.result (view c.step.new.state) (run p inputs level (reduce (named c.args.source.now) (whole n) s (named c.args.update.now)) x)) (sym is)
-    (comes-bind c.step.result (one x) x (reduced (on_state (meaning p.depth (named c.args.update.now)) level) sources.items sources.ending) refl
+    (comes-bind _ c.step.result (one x) x (reduced (on_state (meaning p.depth (named c.args.update.now)) level) sources.items sources.ending) refl
     (subst (Changed c.step.result (view c.step.new.state))
     (sym (single_fold (below p.depth) level n (scope_env inputs p.scope.now) (meaning p.depth (named c.args.update.now)) r.items r.ending (view single) x same))
     (c.step.ensures.runs inputs level one)))
@@ -766,7 +755,7 @@ change_from-returns-clause-runs t c = λ inputs level.
     let p = c.args.self.now in
     let x = plain (view c.args.value.now) in
     let sources = bind (run p inputs level (named c.args.source.now) x) (on_source (bindings_with (below p.depth) (whole (text_of c.args.name.now)) level) (scope_env inputs p.scope.now)) in
-    comes-bind c.fold.result (run p inputs level (named c.args.start.now) x) (plain (view c.in_ok-state.state))
+    comes-bind _ c.fold.result (run p inputs level (named c.args.start.now) x) (plain (view c.in_ok-state.state))
     (reduced (on_state (meaning p.depth (named c.args.update.now)) level) sources.items sources.ending) (c.in_ok-state.ensures inputs level) (c.fold.ensures.runs inputs level)
 
 pub change_from-returns-in_err-state-clause-runs : goal.change_from-returns-in_err-state-clause-runs
@@ -774,7 +763,7 @@ change_from-returns-in_err-state-clause-runs t c = λ inputs level.
     let p = c.args.self.now in
     let x = plain (view c.args.value.now) in
     let sources = bind (run p inputs level (named c.args.source.now) x) (on_source (bindings_with (below p.depth) (whole (text_of c.args.name.now)) level) (scope_env inputs p.scope.now)) in
-    stops c.from_residual.result c.in_err-state.field-0.0 _ c.from_residual.ensures.1
+    stops _ c.from_residual.result c.in_err-state.field-0.0 _ c.from_residual.ensures.1
     (ends-bind c.in_err-state.field-0.0 (run p inputs level (named c.args.start.now) x) (reduced (on_state (meaning p.depth (named c.args.update.now)) level) sources.items sources.ending) (c.in_err-state.ensures inputs level))
 
 pub change_from-returns-in_err-state-clause-keeps : goal.change_from-returns-in_err-state-clause-keeps
@@ -785,8 +774,8 @@ change_reduce-returns-in-Identity-clause-runs t c =
     subst (λ q. ChangesTo c.args.self.now (reduce (named c.args.source.now) q (named c.args.start.now) (named c.args.update.now)) (view c.args.value.now) (view c.change_fold.new.value) c.change_fold.result)
     (sym (ap named_as_pattern c.in-Whole.is ∙ named-Whole c.in-Whole.name)) (c.change_fold.ensures.runs (ap named c.in-Identity.is ∙ named-Identity))
 
-pub change_reduce-returns-clause-runs : goal.change_reduce-returns-clause-runs
-change_reduce-returns-clause-runs t c =
+pub change_reduce-returns-in_default-start-clause-runs : goal.change_reduce-returns-in_default-start-clause-runs
+change_reduce-returns-in_default-start-clause-runs t c =
     subst (λ q. ChangesTo c.args.self.now (reduce (named c.args.source.now) q (named c.args.start.now) (named c.args.update.now)) (view c.args.value.now) (view c.change_from.new.value) c.change_from.result)
     (sym (ap named_as_pattern c.in-Whole.is ∙ named-Whole c.in-Whole.name)) c.change_from.ensures.runs
 
@@ -869,7 +858,7 @@ change_parts-returns-in-Some-clause-runs t c = λ inputs level.
     let r = path_run p inputs level (named c.args.paths.now) v in
     let g = part_run p inputs level (named c.args.update.now) in
     let all : gathered r ≡ one (plain (array (items_of (view c.in-Some.path.now ∷ [])))) =
-    c.in_ok-found.ensures.found inputs level ∙ ap (λ (xs : List Val). one (plain (array (items_of (map view xs))))) (sym c.as_slice.ensures.value ∙ c.in-Some.ensures) in
+    c.in-Ok.ensures inputs level ∙ ap (λ (xs : List Val). one (plain (array (items_of (map view xs))))) (sym c.as_slice.ensures.value ∙ c.in-Some.ensures) in
     subst (Changed c.change_one.result (view c.change_one.new.value)) (sym (known_paths level g r (view c.in-Some.path.now ∷ []) v all)) (c.change_one.ensures.runs inputs level)
 
 pub change_parts-returns-clause-runs : goal.change_parts-returns-clause-runs
@@ -878,18 +867,18 @@ change_parts-returns-clause-runs t c = λ inputs level.
     let v = view c.args.value.now in
     let r = path_run p inputs level (named c.args.paths.now) v in
     let g = part_run p inputs level (named c.args.update.now) in
-    let all : gathered r ≡ one (plain (array (items_of (map view c.as_slice-in_default.result.now)))) =
-    c.in_ok-found.ensures.found inputs level ∙ ap (λ (xs : List Val). one (plain (array (items_of (map view xs))))) (sym c.as_slice-in_default.ensures.value) in
-    subst (Changed c.change_copied.result (view c.change_copied.new.value)) (sym (known_paths level g r (map view c.as_slice-in_default.result.now) v all)) (c.change_copied.ensures.runs inputs level)
+    let all : gathered r ≡ one (plain (array (items_of (map view c.as_slice-in_default-single_of.result.now)))) =
+    c.in-Ok.ensures inputs level ∙ ap (λ (xs : List Val). one (plain (array (items_of (map view xs))))) (sym c.as_slice-in_default-single_of.ensures.value) in
+    subst (Changed c.change_copied.result (view c.change_copied.new.value)) (sym (known_paths level g r (map view c.as_slice-in_default-single_of.result.now) v all)) (c.change_copied.ensures.runs inputs level)
 
-pub paths_of-returns-in-Ok-clause-found : goal.paths_of-returns-in-Ok-clause-found
-paths_of-returns-in-Ok-clause-found t c = λ inputs level.
+pub paths_of-returns : goal.paths_of-returns
+paths_of-returns t c = λ inputs level.
     let go : Item → Run Item = run c.args.self.now inputs level (named c.args.tree.now) in
     let r : Run Item = path_run c.args.self.now inputs level (named c.args.tree.now) (view c.args.value.now) in
     gathered_list inputs level 1048576 (tt {0}) c.new-paths.result.items c.gather.new.into.items r c.new-paths.ensures.items
     (subst (Gathers (made inputs level (rest.End 1048576)) (Ok (tt {0})) c.new-paths.result.items c.gather.new.into.items)
     (ap (λ (x : Item). bind (go x) (λ y. bind (path_item y) one)) c.in_ok-start.ensures ∙ sym (paths-rest (go (located (view c.args.value.now) [])) one))
-    (c.in-Ok.ensures inputs level))
+    (c.in_ok-gather.ensures inputs level))
 
 pub change_one-returns-in-Ok-clause-runs : goal.change_one-returns-in-Ok-clause-runs
 change_one-returns-in-Ok-clause-runs t c = λ inputs level.
