@@ -1,23 +1,35 @@
--- What is claimed of a run that goes on with another filter.
-use Rattle.std.proofs.Common.{◌≡◌, ◌∙◌, ℕ, List, Bool, true, false, Result, Ok, Err, refl, sym, ap, subst}
+-- What is claimed of a run that goes on with another filter, of outputs that are added to a list, and of the steps of a fold.
+use Rattle.std.proofs.Common.{◌≡◌, ◌∙◌, if◌then◌else◌, ℕ, List, Bool, true, false, Result, Ok, Err, refl, sym, ap, subst, [], ◌∷◌, ◌++◌, map, reverse, length, Option, Some, option_to_list, arith, None, IfSome}
+use Rattle.std.proofs.lemmas.Bool.{false≢true}
 use Rattle.std.specs.Result.{IsErrAnd}
-use Rattle.jv_data.specs.Value.{Value, boolean}
+use mathlib.Core.Bool.{beq}
+use Rattle.jv_data.specs.Value.{Value, boolean, array, items_of, values_of, null}
 use Rattle.jv_data.specs.declared.values.Val.{Val}
 use Rattle.jq_natives.specs.Answers.{is_true}
-use Rattle.jq_meaning.specs.Continuations.{truth, on_conjunct, on_disjunct, on_test, on_error, on_source, in_bindings}
-use Rattle.jq_tree.specs.Tree.{Name}
-use Rattle.jq_tree.specs.Tree as tree
+use Rattle.jq_meaning.specs.Continuations.{truth, on_conjunct, on_disjunct, on_error, on_source, in_bindings, on_test, on_state}
+use Rattle.jq_tree.specs.Tree.{Name, Tree}
 use Rattle.jq_meaning.specs.Env.{Env, bound, value_of}
-use Rattle.jq_meaning.specs.Meaning.{Means, bindings_with}
-use Rattle.jq_meaning.specs.Runs.{Item, plain, Run, one, fail, bind, catch}
-use Rattle.jq_meaning.proofs.shared.machine.RunLaws.{bind-one}
-use Rattle.jq_single.specs.Single.{Ends, Changed, Keeps, Leaves}
-use Rattle.jq_single.specs.private.Gathering.{GoesOn}
-use Rattle.jv_data.specs.declared.containers.texts.SharedText.{SharedText}
-use Rattle.jq_single.specs.private.Making.{TextAnswers}
-use Rattle.jq_single.specs.private.Parts.{Answers, IsUntold}
+use Rattle.jq_meaning.specs.Meaning.{Means, bindings_with, meaning}
+use Rattle.jq_meaning.specs.Runs.{Item, plain, alternative, Run, one, fail, bind, catch, value_in, Ending, Done, Raised, Broken, Stopped, none, before, then_run, bind_items, gathered, located, path_error, go_on}
+use Rattle.jq_meaning.proofs.shared.machine.RunLaws.{bind-one, bind-bind, bind-one_right, bind-then_run, then_run-assoc, then_run-none}
+use Rattle.jq_single.specs.Single.{Ends, Comes, Keeps, Leaves}
+use Rattle.jq_single.specs.private.Gathering.{GoesOn, Gathers, GathersAll, given_of, made, rest_run, folded, last_or, state_in, turn}
+use Rattle.jq_single.specs.private.Parts.{RunsTo, decided, run}
 use Rattle.jq_single.specs.declared.stops.Stop.{Stop}
+use Rattle.std.proofs.lemmas.List.{append-nil, map-append, reverse-append}
+use Rattle.jv_data.proofs.shared.Items.{values_of-items_of}
+use Rattle.jv_data.specs.View.{view}
+use Rattle.jq_meaning.specs.Builtins.{values_in_array}
+use Rattle.jq_state.specs.Items.{item_of}
+use Rattle.jq_single.specs.declared.contexts.Context.{Context}
+use Rattle.jq_single.specs.declared.rests.Rest.{Rest}
+use Rattle.jq_meaning.specs.Folds.{next_state, reduced}
+use Rattle.jq_single.specs.private.Scopes.{scope_env}
+use Rattle.jq_tree.specs.Tree as tree
 use Rattle.jq_single.specs.declared.stops.Stop.TheVariants as stop
+use Rattle.jq_state.specs.declared.items.Item as items
+use Rattle.jq_single.specs.declared.rests.Rest.TheVariants as rest
+use Rattle.jq_meaning.specs.Folds as folds
 
 -- after a run without output nothing follows
 pub ends-bind : {A B : Type 0} (s : Stop) (r : Run A) (g : A → Run B) → Ends s r → Ends s (bind r g)
@@ -30,17 +42,9 @@ ends-bind stop.Unknown r g e = tt
 pub bind-known : {A B : Type 0} (r : Run A) (x : A) (g : A → Run B) → r ≡ one x → bind r g ≡ g x
 bind-known r x g e = ap (λ q. bind q g) e ∙ bind-one x g
 
-pub answers-bind : (a : Result Val Stop) (r : Run Item) (x : Item) (g : Item → Run Item) → r ≡ one x → Answers a (g x) → Answers a (bind r g)
-answers-bind a r x g e = subst (Answers a) (sym (bind-known r x g e))
-
-pub changed-bind : {A : Type 0} (a : Result A Stop) (w : Value) (r : Run Item) (x : Item) (g : Item → Run Item) → r ≡ one x → Changed a w (g x) → Changed a w (bind r g)
-changed-bind a w r x g e = subst (Changed a w) (sym (bind-known r x g e))
-
-pub untold : {A : Type 0} (s : Stop) (r : Run A) → IsUntold s → Ends s r
-untold stop.Nothing r h = absurd h
-untold (stop.Raised v) r h = absurd h
-untold stop.NoMemory r h = tt
-untold stop.Unknown r h = tt
+pub comes-bind : {V A B : Type 0} (to : V → Run B) (a : Result V Stop) (r : Run A) (x : A) (g : A → Run B) → r ≡ one x → Comes to a (g x) → Comes to a (bind r g)
+comes-bind to (Ok v) r x g e h = bind-known r x g e ∙ h
+comes-bind to (Err s) r x g e h = subst (Ends s) (sym (bind-known r x g e)) h
 
 pub ends-after : {A B : Type 0} (s : Stop) (r : Run A) (x : A) (g : A → Run B) → r ≡ one x → Ends s (g x) → Ends s (bind r g)
 ends-after s r x g e = subst (Ends s) (sym (bind-known r x g e))
@@ -53,68 +57,48 @@ leaves_same stop.NoMemory v = tt
 leaves_same stop.Unknown v = refl
 
 -- an error of a part, after `?`
-pub stops : (a : Result Val Stop) (s : Stop) (r : Run Item) → IsErrAnd a (λ e. e ≡ s) → Ends s r → Answers a r
-stops (Ok v) s r h k = absurd h
-stops (Err e) s r h k = subst (λ z. Ends z r) (sym h) k
+pub stops : {V B : Type 0} (to : V → Run B) (a : Result V Stop) (s : Stop) (r : Run B) → IsErrAnd a (λ e. e ≡ s) → Ends s r → Comes to a r
+stops to (Ok v) s r h k = absurd h
+stops to (Err e) s r h k = subst (λ z. Ends z r) (sym h) k
 
-pub text-stops : (a : Result SharedText Stop) (s : Stop) (r : Run (List ℕ)) → IsErrAnd a (λ e. e ≡ s) → Ends s r → TextAnswers a r
-text-stops (Ok v) s r h k = absurd h
-text-stops (Err e) s r h k = subst (λ z. Ends z r) (sym h) k
-
-pub changed-stops : {A : Type 0} (a : Result A Stop) (s : Stop) (w : Value) (r : Run Item) → IsErrAnd a (λ e. e ≡ s) → Ends s r → Changed a w r
-changed-stops (Ok v) s w r h k = absurd h
-changed-stops (Err e) s w r h k = subst (λ z. Ends z r) (sym h) k
+pub fails : {V B : Type 0} (to : V → Run B) (a : Result V Stop) (s : Stop) (p : Context) (t : Tree) (v : Value) (g : Item → Run B) (inputs : Run Value) (level : ℕ) → IsErrAnd a (λ e. e ≡ s) → RunsTo p t v (Err s)
+    → Comes to a (bind (run p inputs level t (plain v)) g)
+fails to a s p t v g inputs level h k = stops to a s (bind (run p inputs level t (plain v)) g) h (ends-bind s (run p inputs level t (plain v)) g (k inputs level))
 
 pub keeps-stops : {A : Type 0} (a : Result A Stop) (s : Stop) (v : Value) → IsErrAnd a (λ e. e ≡ s) → Keeps a v v
 keeps-stops (Ok d) s v h = absurd h
 keeps-stops (Err e) s v h = leaves_same e v
 
--- the next state is the output
-pub goes-changed : {A : Type 0} (a : Result A Stop) (w : Value) (r : Run Item) → GoesOn a (one (plain w)) r → Changed a w r
-goes-changed (Ok d) w r h = h
-goes-changed (Err s) w r h = h
-
--- ---- keys
-
 -- ---- conditions
 
-pub and_goes : (a : Result Val Stop) (l : Run Item) (w : Value) (right : Item → Run Item) (x : Item) → l ≡ one (plain w) → is_true w ≡ true → Answers a (bind (right x) truth) → Answers a (bind l (on_conjunct right x))
-unfolding on_conjunct
-and_goes a l w right x e t h = answers-bind a l (plain w) (on_conjunct right x) e (rw (t, on_conjunct) h)
+module _ (p : Context) (inputs : Run Value) (level : ℕ) (t u : Tree) (v : Value) where
+  pub decided_by : (by b : Bool) (w : Value) → run p inputs level t (plain v) ≡ one (plain w) → is_true w ≡ b → beq b by ≡ true → run p inputs level (decided by t u) (plain v) ≡ one (plain (boolean by))
+  unfolding on_conjunct on_disjunct
+  decided_by true true w e k h = bind-known (run p inputs level t (plain v)) (plain w) (on_disjunct (run p inputs level u) (plain v)) e ∙ rw (k, on_disjunct) refl
+  decided_by false false w e k h = bind-known (run p inputs level t (plain v)) (plain w) (on_conjunct (run p inputs level u) (plain v)) e ∙ rw (k, on_conjunct) refl
+  decided_by true false w e k h = absurd (false≢true h)
+  decided_by false true w e k h = absurd (false≢true h)
 
-pub and_stops : (l : Run Item) (w : Value) (right : Item → Run Item) (x : Item) → l ≡ one (plain w) → is_true w ≡ false → bind l (on_conjunct right x) ≡ one (plain (boolean false))
-unfolding on_conjunct
-and_stops l w right x e t = bind-known l (plain w) (on_conjunct right x) e ∙ rw (t, on_conjunct) refl
+  pub decided_else : (by b : Bool) (w : Value) → run p inputs level t (plain v) ≡ one (plain w) → is_true w ≡ b → beq b by ≡ false → run p inputs level (decided by t u) (plain v) ≡ bind (run p inputs level u (plain v)) truth
+  unfolding on_conjunct on_disjunct
+  decided_else true false w e k h = bind-known (run p inputs level t (plain v)) (plain w) (on_disjunct (run p inputs level u) (plain v)) e ∙ rw (k, on_disjunct) refl
+  decided_else false true w e k h = bind-known (run p inputs level t (plain v)) (plain w) (on_conjunct (run p inputs level u) (plain v)) e ∙ rw (k, on_conjunct) refl
+  decided_else true true w e k h = absurd (false≢true (sym h))
+  decided_else false false w e k h = absurd (false≢true (sym h))
 
-pub or_goes : (a : Result Val Stop) (l : Run Item) (w : Value) (right : Item → Run Item) (x : Item) → l ≡ one (plain w) → is_true w ≡ false → Answers a (bind (right x) truth) → Answers a (bind l (on_disjunct right x))
-unfolding on_disjunct
-or_goes a l w right x e t h = answers-bind a l (plain w) (on_disjunct right x) e (rw (t, on_disjunct) h)
-
-pub or_stops : (l : Run Item) (w : Value) (right : Item → Run Item) (x : Item) → l ≡ one (plain w) → is_true w ≡ true → bind l (on_disjunct right x) ≡ one (plain (boolean true))
-unfolding on_disjunct
-or_stops l w right x e t = bind-known l (plain w) (on_disjunct right x) e ∙ rw (t, on_disjunct) refl
-
-pub test_holds : (a : Result Val Stop) (l : Run Item) (w : Value) (holds fails : Item → Run Item) (x : Item) → l ≡ one (plain w) → is_true w ≡ true → Answers a (holds x) → Answers a (bind l (on_test holds fails x))
-unfolding on_test
-test_holds a l w holds fails x e t h = answers-bind a l (plain w) (on_test holds fails x) e (rw (t, on_test) h)
-
-pub test_fails : (a : Result Val Stop) (l : Run Item) (w : Value) (holds fails : Item → Run Item) (x : Item) → l ≡ one (plain w) → is_true w ≡ false → Answers a (fails x) → Answers a (bind l (on_test holds fails x))
-unfolding on_test
-test_fails a l w holds fails x e t h = answers-bind a l (plain w) (on_test holds fails x) e (rw (t, on_test) h)
-
-pub changed_holds : {A : Type 0} (a : Result A Stop) (v : Value) (l : Run Item) (w : Value) (holds fails : Item → Run Item) (x : Item) → l ≡ one (plain w) → is_true w ≡ true → Changed a v (holds x) → Changed a v (bind l (on_test holds fails x))
-unfolding on_test
-changed_holds a v l w holds fails x e t h = changed-bind a v l (plain w) (on_test holds fails x) e (rw (t, on_test) h)
-
-pub changed_fails : {A : Type 0} (a : Result A Stop) (v : Value) (l : Run Item) (w : Value) (holds fails : Item → Run Item) (x : Item) → l ≡ one (plain w) → is_true w ≡ false → Changed a v (fails x) → Changed a v (bind l (on_test holds fails x))
-unfolding on_test
-changed_fails a v l w holds fails x e t h = changed-bind a v l (plain w) (on_test holds fails x) e (rw (t, on_test) h)
+  pub decided_stops : (by : Bool) (s : Stop) → Ends s (run p inputs level t (plain v)) → Ends s (run p inputs level (decided by t u) (plain v))
+  decided_stops true s h = ends-bind s (run p inputs level t (plain v)) (on_disjunct (run p inputs level u) (plain v)) h
+  decided_stops false s h = ends-bind s (run p inputs level t (plain v)) (on_conjunct (run p inputs level u) (plain v)) h
 
 pub truth_of : (l : Run Item) (w : Value) (b : Bool) → l ≡ one (plain w) → b ≡ is_true w → bind l truth ≡ one (plain (boolean b))
 unfolding truth
 truth_of l w b e t = bind-known l (plain w) truth e ∙ ap (λ c. one (plain (boolean c))) (sym t)
 
 -- ---- errors
+
+pub alternative_known : (b : Bool) (r : Run Item) (g : Item → Run Item) (x : Item) (w : Value) → r ≡ one (plain w) → is_true w ≡ b → alternative r g x ≡ (if b then one (plain w) else g x)
+alternative_known true r g x w e t = ap (λ q. alternative q g x) e ∙ rw (t, alternative) refl
+alternative_known false r g x w e t = ap (λ q. alternative q g x) e ∙ rw (t, alternative) refl
 
 pub caught : (r : Run Item) (v w : Value) (handler : Item → Run Item) → r ≡ fail w → catch r (on_error handler (plain v)) ≡ handler (plain w)
 unfolding on_error
@@ -129,7 +113,185 @@ with_variable deeper r n w e k body x h =
     ap (λ q. bind (bind q (on_source (bindings_with deeper (tree.whole n) k) e)) (in_bindings body k x)) h
     ∙ bind-one (bound (value_of n w) e) (in_bindings body k x)
 
--- ---- texts
+-- without an output nothing changes
+pub gathers-none : {A : Type 0} (make : List Val → Run Item → Run Item) (d : A) (xs : List Val) (r : Run Item) → r ≡ none → Gathers make (Ok d) xs xs r
+gathers-none make d xs r e = λ q. ap (λ p. make xs (then_run p q)) e
 
-pub text-bind : {A : Type 0} (a : Result SharedText Stop) (r : Run A) (x : A) (g : A → Run (List ℕ)) → r ≡ one x → TextAnswers a (g x) → TextAnswers a (bind r g)
-text-bind a r x g e = subst (TextAnswers a) (sym (bind-known r x g e))
+-- one run after the other
+pub gathers-then : {A B : Type 0} (make : List Val → Run Item → Run Item) (d : A) (a : Result B Stop) (xs ys zs : List Val) (r q : Run Item) → Gathers make (Ok d) xs ys r → Gathers make a ys zs q → Gathers make a xs zs (then_run r q)
+gathers-then make d (Ok c) xs ys zs r q f g = λ p. ap (make xs) (then_run-assoc r q p) ∙ f (then_run q p) ∙ g p
+gathers-then make d (Err s) xs ys zs r q f g = λ p. subst (Ends s) (sym (ap (make xs) (then_run-assoc r q p) ∙ f (then_run q p))) (g p)
+
+-- a run that stopped is still stopped after more runs
+pub stops-then : (make : List Val → Run Item → Run Item) (s : Stop) (xs : List Val) (r q : Run Item) → ((p : Run Item) → Ends s (make xs (then_run r p))) → (p : Run Item) → Ends s (make xs (then_run (then_run r q) p))
+stops-then make s xs r q h p = subst (λ t. Ends s (make xs t)) (sym (then_run-assoc r q p)) (h (then_run q p))
+
+-- an error, whatever the values before it are
+pub made-fail : (inputs : Run Value) (level : ℕ) (later : Rest) (xs : List Val) (v : Value) → made inputs level later xs (fail v) ≡ fail v
+made-fail inputs level (rest.End most) xs v = refl
+made-fail inputs level (rest.Then' t p q later) xs v = made-fail inputs level later xs v
+made-fail inputs level (rest.Bind' n t p w q later) xs v = made-fail inputs level later xs v
+made-fail inputs level (rest.Field' key guarded q later) xs v = made-fail inputs level later xs v
+made-fail inputs level (rest.At' key guarded q later) xs v = made-fail inputs level later xs v
+made-fail inputs level (rest.Parts' guarded q later) xs v = made-fail inputs level later xs v
+made-fail inputs level (rest.Path' q later) xs v = made-fail inputs level later xs v
+made-fail inputs level (rest.Fold n t p) xs v = refl
+
+pub gathers-fail : (inputs : Run Value) (level : ℕ) (later : Rest) (xs : List Val) (v : Value) (r : Run Item) → r ≡ fail v → (q : Run Item) → made inputs level later xs (then_run r q) ≡ fail v
+gathers-fail inputs level later xs v r e q = ap (λ p. made inputs level later xs (then_run p q)) e ∙ made-fail inputs level later xs v
+
+whole : (r : Run Item) → then_run (bind r one) none ≡ r
+whole r = then_run-none (bind r one) ∙ bind-one_right r
+
+-- an array of the outputs
+all_made : (inputs : Run Value) (level most : ℕ) (xs : List Val) (r : Run Item) → xs ≡ [] → made inputs level (rest.End most) xs (then_run (bind r one) none) ≡ gathered r
+all_made inputs level most xs r e = ap (λ zs. made inputs level (rest.End most) zs (then_run (bind r one) none)) e ∙ ap (made inputs level (rest.End most) []) (whole r)
+
+pub gathered_list : {A : Type 0} (inputs : Run Value) (level most : ℕ) (d : A) (xs ys : List Val) (r : Run Item) → xs ≡ [] → Gathers (made inputs level (rest.End most)) (Ok d) xs ys (bind r one) → gathered r ≡ one (plain (array (items_of (map view ys))))
+gathered_list inputs level most d xs ys r e g = sym (all_made inputs level most xs r e) ∙ g none ∙ ap (λ vs. one (plain (array (items_of vs)))) (append-nil (map view ys))
+
+ends_gathered : (inputs : Run Value) (level most : ℕ) (s : Stop) (xs : List Val) (r : Run Item) → xs ≡ [] → ((q : Run Item) → Ends s (made inputs level (rest.End most) xs (then_run (bind r one) q))) → Ends s (gathered r)
+ends_gathered inputs level most s xs r e h = subst (Ends s) (all_made inputs level most xs r e) (h none)
+
+-- the values and the ending of a run whose outputs are those of an array
+pub gathered_same : (xs : List Item) (f : Ending) (vs : List Value) → gathered (record { items = xs; ending = f }) ≡ one (plain (array (items_of vs))) → (map value_in xs ≡ vs) × (f ≡ Done)
+gathered_same xs Done vs h =
+    let same : values_of (items_of (map value_in xs)) ∷ [] ≡ values_of (items_of vs) ∷ [] = ap (λ (q : Run Item). map (λ y. values_in_array (value_in y)) q.items) h in
+    (sym (values_of-items_of (map value_in xs)) ∙ (cc same) ∙ values_of-items_of vs, refl)
+gathered_same xs (Raised e) vs h = let c = ap (λ (q : Run Item). length q.items) h in absurd (omega (arith, c))
+gathered_same xs (Broken l) vs h = let c = ap (λ (q : Run Item). length q.items) h in absurd (omega (arith, c))
+gathered_same xs (Stopped s) vs h = let c = ap (λ (q : Run Item). length q.items) h in absurd (omega (arith, c))
+
+-- all outputs of a tree on a value
+pub gathers_all : (p : Context) (t : Tree) (v : Value) (most : ℕ) (a : Result (Unit {0}) Stop) (xs ys : List Val) (x : Item) → x ≡ plain v → xs ≡ []
+    → ((inputs : Run Value) (level : ℕ) → Gathers (made inputs level (rest.End most)) a xs ys (bind (run p inputs level t x) (rest_run inputs level (rest.End most))))
+    → GathersAll p t v a ys
+gathers_all p t v most (Ok d) xs ys x h e g = λ inputs level.
+    gathered_list inputs level most d xs ys (run p inputs level t (plain v)) e (subst (λ (z : Item). Gathers (made inputs level (rest.End most)) (Ok d) xs ys (bind (run p inputs level t z) one)) h (g inputs level))
+gathers_all p t v most (Err s) xs ys x h e g = λ inputs level.
+    ends_gathered inputs level most s xs (run p inputs level t (plain v)) e (subst (λ (z : Item). (q : Run Item) → Ends s (made inputs level (rest.End most) xs (then_run (bind (run p inputs level t z) one) q))) h (g inputs level))
+
+-- a test picks a branch
+pub picks_holds : (l : Run Item) (w : Value) (holds fails : Item → Run Item) (x : Item) → l ≡ one (plain w) → is_true w ≡ true → bind l (on_test holds fails x) ≡ holds x
+unfolding on_test
+picks_holds l w holds fails x e t = bind-known l (plain w) (on_test holds fails x) e ∙ rw (t, on_test) refl
+
+pub picks_fails : (l : Run Item) (w : Value) (holds fails : Item → Run Item) (x : Item) → l ≡ one (plain w) → is_true w ≡ false → bind l (on_test holds fails x) ≡ fails x
+unfolding on_test
+picks_fails l w holds fails x e t = bind-known l (plain w) (on_test holds fails x) e ∙ rw (t, on_test) refl
+
+-- ---- items, the last one first
+
+given-last : (xs : List items.Item) (x : items.Item) → then_run (one (item_of x)) (given_of xs) ≡ given_of (xs ++ x ∷ [])
+given-last xs x =
+    ap (λ is. record { items = is; ending = Done })
+    (sym (ap reverse (map-append item_of xs (x ∷ [])) ∙ reverse-append (map item_of xs) (item_of x ∷ [])))
+
+-- taking the last element of the vector takes the first item
+pub last_given : (r : Option items.Item) (xs ys : List items.Item) (x : items.Item) → xs ≡ ys ++ option_to_list r → r ≡ Some x → given_of xs ≡ before (item_of x ∷ []) (given_of ys)
+last_given r xs ys x e is = ap given_of (e ∙ ap (λ o. ys ++ option_to_list o) is) ∙ sym (given-last ys x)
+
+-- ---- the first item, and then the others
+
+pub gives_first : (make : List Val → Run Item → Run Item) (d : Unit {0}) (a : Result (Unit {0}) Stop) (us vs ys : List Val) (r q : Run Item) (x : Item) (g : Item → Run Item) → r ≡ before (x ∷ []) q
+    → Gathers make (Ok d) us vs (bind (one x) g) → Gathers make a vs ys (bind q g) → Gathers make a us ys (bind r g)
+gives_first make d a us vs ys r q x g e h k =
+    subst (λ p. Gathers make a us ys (bind p g)) (sym e)
+    (subst (Gathers make a us ys) (sym (bind-then_run (one x) q g)) (gathers-then make d a us vs ys (bind (one x) g) (bind q g) h k))
+
+pub stops_first : (make : List Val → Run Item → Run Item) (s : Stop) (us : List Val) (r q : Run Item) (x : Item) (g : Item → Run Item) → r ≡ before (x ∷ []) q
+    → ((p : Run Item) → Ends s (make us (then_run (bind (one x) g) p))) → (p : Run Item) → Ends s (make us (then_run (bind r g) p))
+stops_first make s us r q x g e h p =
+    subst (λ t. Ends s (make us (then_run (bind t g) p))) (sym e)
+    (subst (λ t. Ends s (make us (then_run t p))) (sym (bind-then_run (one x) q g)) (stops-then make s us (bind (one x) g) (bind q g) h p))
+
+-- ---- variables
+
+items-same : {A B : Type 0} (xs : List A) (e : Ending) (f g : A → Run B) → ((x : A) → f x ≡ g x) → bind_items xs e f ≡ bind_items xs e g
+items-same [] e f g h = refl
+items-same (x ∷ xs) e f g h = ap (λ q. then_run q (bind_items xs e f)) (h x) ∙ ap (then_run (g x)) (items-same xs e f g h)
+
+pub bound_rest : (deeper : Means) (r : Run Item) (n : Name) (e : Env) (k : ℕ) (body : Env → ℕ → Item → Run Item) (x : Item) (g : Item → Run Item)
+    → bind (bind (bind r (on_source (bindings_with deeper (tree.whole n) k) e)) (in_bindings body k x)) g ≡ bind r (λ y. bind (body (bound (value_of n (value_in y)) e) k x) g)
+unfolding on_source in_bindings
+bound_rest deeper r n e k body x g =
+    let source : Item → Run Env = on_source (bindings_with deeper (tree.whole n) k) e in
+    let goes : Env → Run Item = in_bindings body k x in
+    ap (λ q. bind q g) (bind-bind r source goes) ∙ bind-bind r (λ y. bind (source y) goes) g
+    ∙ items-same r.items r.ending (λ y. bind (bind (source y) goes) g) (λ y. bind (body (bound (value_of n (value_in y)) e) k x) g)
+    (λ y. ap (λ q. bind q g) (bind-one (bound (value_of n (value_in y)) e) goes))
+
+-- the state is the last value
+pub last_or_end : (v : Value) (xs : List Val) (x : Val) → last_or v (xs ++ x ∷ []) ≡ view x
+last_or_end v [] x = refl
+last_or_end v (y ∷ ys) x = last_or_end (view y) ys x
+
+pub taken : (r : Option Val) (xs ys : List Val) → xs ≡ ys ++ option_to_list r → IfSome r (λ v. state_in xs ≡ plain (view v))
+taken None xs ys e = tt
+taken (Some v) xs ys e = ap state_in e ∙ ap plain (last_or_end null ys v)
+
+-- one step, whatever follows
+pub turned : {A : Type 0} (a : Result A Stop) (step : Item → Item → Run Item) (x : Item) (xs ys : List Val) → ((go : Item → Run Item) → GoesOn a (go (state_in ys)) (next_state (state_in xs) (step x (state_in xs)) go))
+    → Gathers (λ us r. reduced step r.items r.ending (state_in us)) a xs ys (one x)
+turned (Ok d) step x xs ys h = λ q. h (reduced step q.items q.ending)
+turned (Err s) step x xs ys h = λ q. h (reduced step q.items q.ending)
+
+-- the result depends only on what is done with the next state
+after-same : (ys : List Item) (f g : Item → Run Item) → ((y : Item) → f y ≡ g y) → ◌≡◌ {A = Run Item} (elim ys [ [] ↦ path_error | z ∷ zs ↦ f (folds.last_or z zs) ]) (elim ys [ [] ↦ path_error | z ∷ zs ↦ g (folds.last_or z zs) ])
+after-same [] f g h = refl
+after-same (z ∷ zs) f g h = h (folds.last_or z zs)
+
+next-same : (x : Item) (r : Run Item) (f g : Item → Run Item) → ((y : Item) → f y ≡ g y) → next_state x r f ≡ next_state x r g
+next-same (plain v) r f g h = ap (go_on r.ending) (h (folds.last_or (plain null) r.items))
+next-same (located v p) r f g h = ap (go_on r.ending) (after-same r.items f g h)
+
+-- a fold over the values of a variable
+reduced-bound : (deeper : Means) (k : ℕ) (n : Name) (e : Env) (update : Env → ℕ → Item → Run Item) (xs : List Item) (f : Ending) (state : Item)
+    → reduced (on_state update k) (bind_items xs f (on_source (bindings_with deeper (tree.whole n) k) e)).items (bind_items xs f (on_source (bindings_with deeper (tree.whole n) k) e)).ending state
+    ≡ reduced (λ x. update (bound (value_of n (value_in x)) e) k) xs f state
+unfolding on_source on_state
+reduced-bound deeper k n e update [] f state = refl
+reduced-bound deeper k n e update (x ∷ xs) f state =
+    next-same state (update (bound (value_of n (value_in x)) e) k state)
+    (reduced (on_state update k) (bind_items xs f (on_source (bindings_with deeper (tree.whole n) k) e)).items (bind_items xs f (on_source (bindings_with deeper (tree.whole n) k) e)).ending)
+    (reduced (λ y. update (bound (value_of n (value_in y)) e) k) xs f) (λ y. reduced-bound deeper k n e update xs f y)
+
+-- a fold whose source was run to its end
+pub fold_ends : (deeper : Means) (k : ℕ) (n : Name) (e : Env) (update : Env → ℕ → Item → Run Item) (source : Run Item) (xs : List Val) (state : Value) (r : Run Item) → state_in xs ≡ plain state
+    → reduced (λ x. update (bound (value_of n (value_in x)) e) k) (then_run (bind source one) none).items (then_run (bind source one) none).ending (state_in xs) ≡ r
+    → reduced (on_state update k) (bind source (on_source (bindings_with deeper (tree.whole n) k) e)).items (bind source (on_source (bindings_with deeper (tree.whole n) k) e)).ending (plain state) ≡ r
+fold_ends deeper k n e update source xs state r h g =
+    let step : Item → Item → Run Item = λ x. update (bound (value_of n (value_in x)) e) k in
+    reduced-bound deeper k n e update source.items source.ending (plain state)
+    ∙ ap (reduced step source.items source.ending) (sym h)
+    ∙ ap (λ (q : Run Item). reduced step q.items q.ending (state_in xs)) (sym (then_run-none (bind source one) ∙ bind-one_right source))
+    ∙ g
+
+-- ---- a fold of one step
+
+one_step : (step : Value → Item → Run Item) (xs : List Item) (s : Value) (state : Item) → map value_in xs ≡ s ∷ [] → reduced (λ x. step (value_in x)) xs Done state ≡ next_state state (step s state) one
+one_step step [] s state h = let c = ap length h in absurd (omega (arith, c))
+one_step step (y ∷ []) s state h =
+    let first : value_in y ≡ s = cc h in
+    next-same state (step (value_in y) state) (reduced (λ x. step (value_in x)) [] Done) one (λ z. refl) ∙ ap (λ w. next_state state (step w state) one) first
+one_step step (y ∷ z ∷ zs) s state h = let c = ap length h in absurd (omega (arith, c))
+
+pub single_fold : (deeper : Means) (k : ℕ) (n : Name) (e : Env) (update : Env → ℕ → Item → Run Item) (xs : List Item) (f : Ending) (s : Value) (state : Item)
+    → gathered (record { items = xs; ending = f }) ≡ one (plain (array (items_of (s ∷ []))))
+    → reduced (on_state update k) (bind_items xs f (on_source (bindings_with deeper (tree.whole n) k) e)).items (bind_items xs f (on_source (bindings_with deeper (tree.whole n) k) e)).ending state
+    ≡ next_state state (update (bound (value_of n s) e) k state) one
+single_fold deeper k n e update xs f s state g =
+    let is = gathered_same xs f (s ∷ []) g in
+    let step : Value → Item → Run Item = λ w. update (bound (value_of n w) e) k in
+    reduced-bound deeper k n e update xs f state ∙ ap (λ h. reduced (λ x. step (value_in x)) xs h state) is.1 ∙ one_step step xs s state is.0
+
+-- ---- a step of a fold sees the value of an item alone
+
+module _ (p : Context) (inputs : Run Value) (level : ℕ) (n : Name) (t : Tree) where
+  step-same : (xs : List Val) (x : Item) (v : Value) → value_in x ≡ v → (q : Run Item) → folded p inputs level n t xs (then_run (one x) q) ≡ folded p inputs level n t xs (then_run (one (plain v)) q)
+  step-same xs x v h q =
+      ap (λ w. next_state (state_in xs) (meaning p.depth t (bound (value_of n w) (scope_env inputs p.scope.now)) level (state_in xs)) (reduced (turn p inputs level n t) q.items q.ending)) h
+
+  pub fold_value : {A : Type 0} (a : Result A Stop) (xs ys : List Val) (x : Item) (v : Value) → value_in x ≡ v → Gathers (folded p inputs level n t) a xs ys (one (plain v)) → Gathers (folded p inputs level n t) a xs ys (one x)
+  fold_value (Ok d) xs ys x v h g = λ q. step-same xs x v h q ∙ g q
+  fold_value (Err s) xs ys x v h g = λ q. subst (Ends s) (sym (step-same xs x v h q)) (g q)

@@ -1,11 +1,3 @@
 pub mod Binding
-pub mod Bodies
-pub mod GivenArguments
-pub mod Gathered
-pub mod Folded
-pub mod Located
-pub mod FirstOutputs
-pub mod Sets
+pub mod Calls
 pub mod UpdateTurns
-pub mod Passed
-pub mod Compared

@@ -18,10 +18,14 @@ Ends (stop.Raised v) r = r ≡ fail (view v)
 Ends stop.NoMemory r = Unit {0}
 Ends stop.Unknown r = Unit {0}
 
+-- A known run, by what was found, or a run without output.
+abbrev pub Comes : {V B : Type 0} → (V → Run B) → Result V Stop → Run B → Type 0
+Comes to (Ok v) r = r ≡ to v
+Comes to (Err s) r = Ends s r
+
 -- A run with one output, which replaces the value, or without output.
 abbrev pub Changed : {A : Type 0} → Result A Stop → (later : Value) → Run Item → Type 0
-Changed (Ok done) w r = r ≡ one (plain w)
-Changed (Err s) w r = Ends s r
+Changed a w r = Comes (λ done. one (plain w)) a r
 
 -- The run of a tree on a value, in the environment at an index, at a call depth, for every label level.
 abbrev pub Changes : {A : Type 0} → Nodes → (env depth : ℕ) → Tree → (before later : Value) → Result A Stop → Type 0

@@ -3,7 +3,6 @@ pub mod Scopes
 pub mod Finds
 pub mod Parts
 pub mod FirstOutputs
-pub mod Natives
 pub mod Making
 pub mod Gathering
 pub mod Updates

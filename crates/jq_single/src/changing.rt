@@ -1,24 +1,33 @@
-// A filter whose output replaces its input.
-ghost use Rattle.std.specs.Prelude.{◌<◌};
+// A filter whose output replaces its input, and calls.
+ghost use Rattle.std.specs.Prelude.{◌<◌, ◌≡◌, map};
 ghost use Rattle.jv_data.specs.View.{view};
 ghost use Rattle.jq_ast.specs.Leaves.{operator_of};
 ghost use Rattle.jq_ast.specs.Named.{named, named_as_pattern};
-ghost use Rattle.jq_tree.specs.Tree as form;
 ghost use Rattle.jq_state.specs.Environments.{count_of};
 ghost use Rattle.jq_operations.specs.Entering.{defined};
-ghost use Rattle.jq_single.specs.Single.{Changes, Keeps};
-ghost use Rattle.jq_single.specs.private.Parts.{ChangesTo};
+ghost use Rattle.jq_single.specs.Single.{Changes, Keeps, Changed};
+ghost use Rattle.jq_single.specs.private.Parts.{ChangesTo, Calls, ChangesBelow, ChangesByBuiltin, ChangesByNative};
+ghost use Rattle.jv_data.specs.Value.{Value};
+ghost use Rattle.jq_meaning.specs.Continuations.{on_left};
+ghost use Rattle.jq_meaning.specs.Runs.{plain, Run};
+ghost use Rattle.jq_tree.specs.Tree.{trees_of};
+ghost use Rattle.jq_operations.specs.Language.{meaning_of};
+ghost use Rattle.jq_meaning.specs.Builtins.{plain_native};
+ghost use Rattle.jq_single.specs.private.Scopes.{body_env, scope_env};
+ghost use Rattle.jq_tree.specs.Tree as form;
 
 use crate::contexts::{Context, FUEL};
-use crate::operators::operate_in_place;
+use crate::finding::Found;
 use crate::scopes::{Outside, Scope};
 use crate::stops::Stop;
 use jq_ast::{Function, Operator, Pattern, Tree};
-use jq_natives::truth;
+use jq_natives::{Native, call_in_place, truth};
+use jq_operations::{Builtin, operated};
 use jq_shapes::{goes_over_all, is_cheap};
 use jq_state::environments::Nodes;
-use jv_data::Val;
+use jv_data::{Fail, Val};
 use std::alloc::Global;
+use std::mem::replace;
 
 /// Runs a filter on a value in an environment, up to a depth of calls, and replaces the value by the filter's output. A value
 /// that is not shared is changed and not copied. If the filter has a form that is not run at once, the value is unchanged.
@@ -85,50 +94,38 @@ impl<'s> Context<'s> {
                 self.change_binding(source, pattern, body, value)
             }
             Tree::Define(function, rest) => self.change_define(function, rest, value),
-            Tree::Call(name, arguments) => self.change_call(name, arguments, value),
+            Tree::Call(name, arguments) => {
+                self.change_call(self.called(name, arguments), arguments, value)
+            }
             Tree::PreludeCall(name, arguments) => {
-                self.change_prelude_call(name, arguments, value)
+                self.change_call(self.called_in_prelude(name, arguments), arguments, value)
             }
             Tree::Update(modify, parts) => self.change_update(modify, &**parts, value),
             Tree::Reduce(source, pattern, start, update) => {
                 self.change_reduce(source, pattern, start, update, value)
             }
-            Tree::Pipe(first, _) => self.change_after(tree, first, value),
+            // If `f` of `f | g` may change its input, the machine runs the filter: here the input has to be kept until `g` has run,
+            // so `f` would copy it.
+            Tree::Pipe(first, _) if !self.kept && !goes_over_all(first) && !is_cheap(value) => {
+                Err(Stop::Unknown)
+            }
             _ => self.change_kept(tree, value),
         }
     }
 
-    /// The value is kept until the output is known.
+    // The value is kept until the output is known.
     #[cycle(single)]
     #[inline(never)]
-    pub(crate) fn change_kept(&self, tree: &'s Tree, value: &mut Val) -> Result<(), Stop>
+    fn change_kept(&self, tree: &'s Tree, value: &mut Val) -> Result<(), Stop>
         ensures runs { ChangesTo self.now (named tree.now) (view value.old) (view value.new) result }
         ensures keeps { Keeps result (view value.old) (view value.new) }
     {
-        match self.get(tree, value) {
+        match self.get_made(tree, value) {
             Ok(output) => {
                 *value = output;
                 Ok(())
             }
             Err(stop) => Err(stop),
-        }
-    }
-
-    // `f | g`: if `f` may change its input, the machine runs the filter: here the input has to be kept
-    // until `g` has run, so `f` would copy it.
-    #[cycle(single)]
-    #[inline(never)]
-    fn change_after(&self, tree: &'s Tree, first: &Tree, value: &mut Val) -> Result<(), Stop>
-        ensures runs { ChangesTo self.now (named tree.now) (view value.old) (view value.new) result }
-        ensures keeps { Keeps result (view value.old) (view value.new) }
-    {
-        if self.kept {
-            return self.change_kept(tree, value);
-        }
-        if goes_over_all(first) || is_cheap(value) {
-            self.change_kept(tree, value)
-        } else {
-            Err(Stop::Unknown)
         }
     }
 
@@ -145,6 +142,10 @@ impl<'s> Context<'s> {
         ensures runs { ChangesTo self.now (form.binary (operator_of operator) (named left.now) (named right.now)) (view value.old) (view value.new) result }
         ensures keeps { Keeps result (view value.old) (view value.new) }
     {
+        if let Some(told) = self.compared(operator, left, right, value) {
+            *value = Val::Bool(told);
+            return Ok(());
+        }
         let second = self.get_part(right, value)?;
         match self.change(left, value) {
             Ok(()) => operate_in_place(self.alloc, operator, value, &second),
@@ -218,5 +219,152 @@ impl<'s> Context<'s> {
             }
             _ => Err(Stop::Unknown),
         }
+    }
+
+    // A call, by what it finds.
+    #[cycle(single)]
+    #[inline(never)]
+    fn change_call(
+        &self,
+        found: Found<'s>,
+        arguments: &'s Vec<Tree>,
+        value: &mut Val,
+    ) -> Result<(), Stop>
+        ensures runs { (t : form.Tree) → Calls self.now t arguments.now.items found.entry → ChangesTo self.now t (view value.old) (view value.new) result }
+        ensures keeps { Keeps result (view value.old) (view value.new) }
+    {
+        match found {
+            Found::Function(function, own) => {
+                let scope = scope_of_call(&own, &*function, &*arguments, &*self.scope);
+                (&*self).change_body(&function.body, &scope, value)
+            }
+            Found::Closure(body, own) => self.change_body(body, &own, value),
+            Found::Builtin(builtin) => self.change_builtin(builtin, arguments.as_slice(), value),
+            Found::Nothing => Err(Stop::Unknown),
+        }
+    }
+
+    // Runs a body in its own scope, with a call depth that is smaller by one.
+    #[cycle(single)]
+    fn change_body(&self, body: &'s Tree, own: &Scope<'s>, value: &mut Val) -> Result<(), Stop>
+        ensures runs { ChangesBelow self.now own.now (named body.now) (view value.old) (view value.new) result }
+        ensures keeps { Keeps result (view value.old) (view value.new) }
+    {
+        if self.depth == 0 {
+            return Err(Stop::Unknown);
+        }
+        let inside = Context {
+            scope: &*own,
+            depth: self.depth - 1,
+            ..*self
+        };
+        inside.change(&*body, value)
+    }
+
+    /// A name of the language whose answer replaces the value. `setpath` and `delpaths` would copy a value that is kept, so they
+    /// are not run at once on one.
+    #[cycle(single)]
+    pub(crate) fn change_builtin(
+        &self,
+        builtin: Builtin,
+        arguments: &'s [Tree],
+        value: &mut Val,
+    ) -> Result<(), Stop>
+        ensures runs { ChangesByBuiltin self.now (meaning_of builtin) (trees_of (map named arguments.now)) (view value.old) (view value.new) result }
+        ensures keeps { Keeps result (view value.old) (view value.new) }
+    {
+        match builtin {
+            Builtin::NoOutputs => Err(Stop::Nothing),
+            Builtin::Native(Native::SetPath) if self.kept => Err(Stop::Unknown),
+            Builtin::Native(Native::DelPaths) if self.kept => Err(Stop::Unknown),
+            Builtin::Native(native) => self.change_native(native, arguments, value),
+            _ => Err(Stop::Unknown),
+        }
+    }
+
+    // A native with at most two arguments.
+    #[cycle(single)]
+    #[inline(never)]
+    fn change_native(
+        &self,
+        native: Native,
+        arguments: &'s [Tree],
+        value: &mut Val,
+    ) -> Result<(), Stop>
+        ensures runs { ChangesByNative self.now native (trees_of (map named arguments.now)) (view value.old) (view value.new) result }
+        ensures keeps { Keeps result (view value.old) (view value.new) }
+    {
+        match arguments {
+            [] => call_on(self.alloc, native, value, &[]),
+            [argument] => {
+                let only = self.get(argument, value)?;
+                call_on(self.alloc, native, value, &[only])
+            }
+            [first, second] => {
+                let one = self.get(first, value)?;
+                let other = self.get(second, value)?;
+                call_on(self.alloc, native, value, &[one, other])
+            }
+            _ => Err(Stop::Unknown),
+        }
+    }
+}
+
+// The answer of an operator replaces the left value. `+` changes a left value that is not shared in place.
+fn operate_in_place(
+    alloc: Global,
+    operator: Operator,
+    left: &mut Val,
+    right: &Val,
+) -> Result<(), Stop>
+    ensures runs { Changed result (view left.new) (on_left (operator_of operator) (view right.now) (plain (view left.old))) }
+    ensures keeps { (v : Value) → Keeps result v (view left.new) }
+{
+    let taken = replace(left, Val::Null);
+    match operated(alloc, operator, taken, right) {
+        Ok(found) => {
+            *left = found;
+            Ok(())
+        }
+        Err(Fail::Raised(error)) => Err(Stop::Raised(error)),
+        Err(Fail::NoMemory) => Err(Stop::NoMemory),
+    }
+}
+
+/// The scope of a function's body, in which the parameters are bound to the arguments of a call. Without parameters it is the
+/// function's own.
+pub(crate) fn scope_of_call<'s>(
+    own: &'s Scope<'s>,
+    function: &'s Function<Tree>,
+    arguments: &'s Vec<Tree>,
+    caller: &'s Scope<'s>,
+) -> Scope<'s>
+    ensures { (inputs : Run Value) → scope_env inputs result ≡ body_env function.now arguments.now.items (scope_env inputs caller.now) (scope_env inputs own.now) }
+{
+    if function.parameters.is_empty() {
+        *own
+    } else {
+        Scope::Call(own, function, arguments, caller)
+    }
+}
+
+/// The answer of a native replaces the value. `setpath` and `delpaths` change a value that is not shared in place.
+pub(crate) fn call_on(
+    alloc: Global,
+    native: Native,
+    value: &mut Val,
+    arguments: &[Val],
+) -> Result<(), Stop>
+    ensures runs { Changed result (view value.new) (plain_native native (view value.old) (map view arguments.now)) }
+    ensures keeps { (v : Value) → Keeps result v (view value.new) }
+{
+    let taken = replace(value, Val::Null);
+    match call_in_place(alloc, native, taken, arguments) {
+        Ok(found) => {
+            *value = found;
+            Ok(())
+        }
+        Err(Fail::Raised(error)) => Err(Stop::Raised(error)),
+        Err(Fail::NoMemory) => Err(Stop::NoMemory),
     }
 }

@@ -1,36 +1,97 @@
-// What a name is bound to in a scope.
-ghost use Rattle.std.specs.Prelude.{◌≡◌, IfOk, IsTrue};
-ghost use Rattle.jv_data.specs.Value.{Value};
+// What a name is bound to in a scope, and comparisons of the name of a value's kind with a constant, for which no text is made.
+ghost use Rattle.std.specs.Prelude.{◌≡◌, IfOk, IsTrue, map, codes, IfSome, Ok};
+ghost use Rattle.jv_data.specs.Value.{Value, string};
 ghost use Rattle.jv_data.specs.View.{view};
-ghost use Rattle.jq_ast.specs.Named.{name_of};
-ghost use Rattle.jq_meaning.specs.Env as meaning;
+ghost use Rattle.jq_ast.specs.Named.{name_of, named};
+ghost use Rattle.jq_tree.specs.Tree.{trees_of};
 ghost use Rattle.jq_meaning.specs.Runs.{Run};
 ghost use Rattle.jq_state.specs.Environments.{count_of, envs_of};
-ghost use Rattle.jq_single.specs.private.Scopes.{scope_env};
+ghost use Rattle.jq_single.specs.private.Scopes.{outside_in, scope_env};
 ghost use Rattle.jq_single.specs.private.Finds.{FindsBound, FindsInPrelude, found_in};
-ghost use Rattle.jq_state.specs.Nodes.{env_at};
+ghost use Rattle.jq_single.specs.private.Parts.{Calls, RunsTo};
 ghost use Rattle.jq_meaning.specs.updates.Known.{HasModify};
 ghost use Rattle.jq_operations.specs.Callees.{CalleeFits, callee_in};
+ghost use Rattle.jv_data.specs.Kind.{kind_name};
+ghost use Rattle.jv_data.specs.Shared.{text_in};
+ghost use Rattle.jq_ast.specs.Leaves.{literal_of, operator_of};
+ghost use Rattle.jq_meaning.specs.Continuations.{value_of_literal};
+ghost use Rattle.jq_natives.specs.Answers.{is_same, yes_or_no};
+ghost use Rattle.jq_tree.specs.Tree as form;
+ghost use Rattle.jq_meaning.specs.Env as meaning;
+ghost use Rattle.jv_data.specs.declared.values.Val as val;
+ghost use Rattle.jq_meaning.specs.Steps as steps;
 
+use crate::contexts::Context;
 use crate::scopes::{Outside, Scope};
-use jq_ast::{Function, Name, Tree};
+use jq_ast::{Function, Literal, Name, Operator, Tree};
 use jq_meaning::updates::the_preludes_update_stays;
-use jq_operations::{Callee, find_callee, find_in_prelude, find_value};
+use jq_operations::{Builtin, Callee, builtin_named, find_callee, find_in_prelude, find_value};
 use jq_state::environments::Nodes;
 use jq_state::names::{is_function, is_text};
-use jv_data::{NoMemory, Val};
+use jv_data::{NoMemory, SharedText, Val, kind_name};
 
-/// What a call finds: a function, with the scope that begins with its own binding, or a
-/// filter that was passed, with its own scope.
+/// What a call finds: a function, with the scope that begins with its own binding, a
+/// filter that was passed, with its own scope, or a name of the language.
 #[derive(Clone, Copy)]
 pub(crate) enum Found<'s> {
     Function(&'s Function<Tree>, Scope<'s>),
     Closure(&'s Tree, Scope<'s>),
+    Builtin(Builtin),
     Nothing,
 }
 
-/// The innermost function or parameter with this name and this number of arguments.
-pub(crate) fn callee_of<'s>(scope: &Scope<'s>, name: &Name, count: usize) -> Found<'s>
+impl<'s> Context<'s> {
+    /// What `a(f; g)` runs.
+    pub(crate) fn called(&self, name: &Name, arguments: &Vec<Tree>) -> Found<'s>
+        ensures { Calls self.now (form.call (name_of name.now) (trees_of (map named arguments.now.items))) arguments.now.items result }
+    {
+        let count = arguments.len();
+        match callee_of(self.scope, name, count) {
+            Found::Function(function, own) => Found::Function(function, own),
+            Found::Closure(body, own) => Found::Closure(body, own),
+            Found::Builtin(_) => Found::Nothing,
+            Found::Nothing => Found::Builtin(builtin_named(name.text.as_str(), count)),
+        }
+    }
+
+    /// What a call of the prelude's own function runs.
+    pub(crate) fn called_in_prelude(&self, name: &Name, arguments: &Vec<Tree>) -> Found<'s>
+        ensures { Calls self.now (form.prelude_call (name_of name.now) (trees_of (map named arguments.now.items))) arguments.now.items result }
+    {
+        let count = arguments.len();
+        match prelude_of(self.scope, name, count) {
+            Found::Function(function, own) => Found::Function(function, own),
+            _ => Found::Nothing,
+        }
+    }
+
+    /// The result of an operator, if it compares `type` with a constant.
+    #[inline(never)]
+    pub(crate) fn compared(
+        &self,
+        operator: Operator,
+        left: &Tree,
+        right: &Tree,
+        value: &Val,
+    ) -> Option<bool>
+        ensures { IfSome result (λ b. RunsTo self.now (form.binary (operator_of operator) (named left.now) (named right.now)) (view value.now) (Ok (val.Bool b))) }
+    {
+        let Tree::Literal(constant) = right else {
+            return None;
+        };
+        let Some(name) = name_alone(left) else {
+            return None;
+        };
+        if is_type(self.scope, name) {
+            kind_told(operator, value, constant_of(constant))
+        } else {
+            None
+        }
+    }
+}
+
+// The innermost function or parameter with this name and this number of arguments.
+fn callee_of<'s>(scope: &Scope<'s>, name: &Name, count: usize) -> Found<'s>
     ensures { (inputs : Run Value) → found_in inputs result ≡ meaning.find_callee (name_of name.now) count (scope_env inputs scope.now) }
 {
     match scope {
@@ -59,8 +120,8 @@ pub(crate) fn callee_of<'s>(scope: &Scope<'s>, name: &Name, count: usize) -> Fou
     }
 }
 
-/// The argument for the last parameter with this name, or else what was found before.
-pub(crate) fn argument_of<'s>(
+// The argument for the last parameter with this name, or else what was found before.
+fn argument_of<'s>(
     parameters: &[String],
     arguments: &'s [Tree],
     name: &Name,
@@ -83,20 +144,26 @@ pub(crate) fn argument_of<'s>(
     }
 }
 
-/// The prelude's own function with this name and this number of arguments, whatever is defined later. If a scope outside of the run's
-/// environment would have to define it, nothing is found.
-pub(crate) fn prelude_of<'s>(scope: &Scope<'s>, name: &Name, count: usize) -> Found<'s>
-    ensures { FindsInPrelude (name_of name.now) count scope.now result }
+// The environment of the run in which a scope's bindings are.
+fn outside_of<'s>(scope: &Scope<'s>) -> Outside<'s>
+    ensures { result ≡ outside_in scope.now }
 {
     match scope {
-        Scope::Run(outside) => {
-            let nodes = outside.nodes;
-            of_the_run(nodes, find_in_prelude(nodes, name, count, outside.env))
-        }
-        Scope::Value(outer, _, _) => prelude_of(outer, name, count),
-        Scope::Function(outer, _) => prelude_of(outer, name, count),
-        Scope::Call(own, _, _, _) => prelude_of(own, name, count),
+        Scope::Run(outside) => *outside,
+        Scope::Value(outer, _, _) => outside_of(outer),
+        Scope::Function(outer, _) => outside_of(outer),
+        Scope::Call(own, _, _, _) => outside_of(own),
     }
+}
+
+// The prelude's own function with this name and this number of arguments, whatever is defined later. If a scope outside of the run's
+// environment would have to define it, nothing is found.
+fn prelude_of<'s>(scope: &Scope<'s>, name: &Name, count: usize) -> Found<'s>
+    ensures { FindsInPrelude (name_of name.now) count scope.now result }
+{
+    let outside = outside_of(scope);
+    let nodes = outside.nodes;
+    of_the_run(nodes, find_in_prelude(nodes, name, count, outside.env))
 }
 
 // What a call finds in an environment of the run.
@@ -124,17 +191,7 @@ pub(crate) fn has_modify(scope: &Scope<'_>) -> bool
     ensures { IsTrue result → (inputs : Run Value) → ∥ HasModify (scope_env inputs scope.now) ∥₁ }
 {
     the_preludes_update_stays();
-    match scope {
-        Scope::Run(outside) => modify_of_the_run(outside),
-        Scope::Value(outer, _, _) => has_modify(outer),
-        Scope::Function(outer, _) => has_modify(outer),
-        Scope::Call(own, _, _, _) => has_modify(own),
-    }
-}
-
-fn modify_of_the_run(outside: &Outside<'_>) -> bool
-    ensures { IsTrue result → (inputs : Run Value) → ∥ HasModify (env_at (envs_of inputs outside.now.nodes.now) outside.now.env) ∥₁ }
-{
+    let outside = outside_of(scope);
     jq_operations::has_modify(outside.nodes, outside.env)
 }
 
@@ -154,4 +211,64 @@ pub(crate) fn value_of(scope: &Scope<'_>, name: &Name) -> Result<Val, NoMemory>
         Scope::Function(outer, _) => value_of(outer, name),
         Scope::Call(own, _, _, _) => value_of(own, name),
     }
+}
+
+// The name of a call without arguments.
+fn name_alone(tree: &Tree) -> Option<&Name>
+    ensures { IfSome result (λ n. named tree.now ≡ form.call (name_of n.now) form.no_trees) }
+{
+    match tree {
+        Tree::Call(name, arguments) => match arguments.as_slice() {
+            [] => Some(name),
+            _ => None,
+        },
+        _ => None,
+    }
+}
+
+// The value of a constant.
+#[inline(always)]
+fn constant_of(constant: &Literal) -> &Val
+    ensures { view result.now ≡ value_of_literal (literal_of constant.now) }
+{
+    constant.value()
+}
+
+// Whether a name is that of the native `type`, without arguments.
+fn is_type(scope: &Scope<'_>, name: &Name) -> bool
+    ensures name { IsTrue result → name_of name.now ≡ codes "type" }
+    ensures unbound { IsTrue result → (inputs : Run Value) → meaning.find_callee (name_of name.now) 0 (scope_env inputs scope.now) ≡ meaning.no_callee }
+{
+    name.text.as_str() == "type" && is_unbound(scope, name)
+}
+
+// That no function and no parameter has this name and no arguments.
+fn is_unbound(scope: &Scope<'_>, name: &Name) -> bool
+    ensures { IsTrue result → (inputs : Run Value) → meaning.find_callee (name_of name.now) 0 (scope_env inputs scope.now) ≡ meaning.no_callee }
+{
+    match callee_of(scope, name, 0) {
+        Found::Nothing => true,
+        _ => false,
+    }
+}
+
+// The result of an operator on the name of a value's kind and a text, if it is `==` or `!=`.
+fn kind_told(operator: Operator, value: &Val, right: &Val) -> Option<bool>
+    ensures { IfSome result (λ b. steps.operator_of (operator_of operator) (string (kind_name (view value.now))) (view right.now) ≡ yes_or_no b) }
+{
+    let Val::Text(text) = right else {
+        return None;
+    };
+    match operator {
+        Operator::Equal => Some(is_kind(value, text)),
+        Operator::NotEqual => Some(!is_kind(value, text)),
+        _ => None,
+    }
+}
+
+// Whether a text is the name of a value's kind.
+fn is_kind(value: &Val, text: &SharedText) -> bool
+    ensures { result ≡ is_same (string (kind_name (view value.now))) (string (text_in text.now)) }
+{
+    kind_name(value) == text.as_str()
 }

@@ -1,4 +1,4 @@
-// `reduce`, whose state each step changes in place.
+// Folds (`reduce`), whose state each step changes in place.
 ghost use Rattle.std.specs.Prelude.{◌≡◌, ◌∷◌, [], IfSome, OnOk};
 ghost use Rattle.jv_data.specs.Text.{text_of};
 ghost use Rattle.jv_data.specs.View.{view};
@@ -6,8 +6,8 @@ ghost use Rattle.jq_ast.specs.Named.{named, named_as_pattern};
 ghost use Rattle.jq_tree.specs.Tree as form;
 ghost use Rattle.jq_meaning.specs.Runs.{plain};
 ghost use Rattle.jq_single.specs.Single.{Keeps};
-ghost use Rattle.jq_single.specs.private.Gathering.{FoldsFrom, FoldsIn, GathersAll, GathersTurn, Steps, Turns, state_in};
-ghost use Rattle.jq_single.specs.private.Parts.{ChangesTo, RunsTo};
+ghost use Rattle.jq_single.specs.private.Gathering.{FoldsAs, FoldsFrom, GathersTurn, Turns, state_in};
+ghost use Rattle.jq_single.specs.private.Parts.{ChangesTo};
 
 use crate::contexts::Context;
 use crate::rests::Rest;
@@ -22,67 +22,7 @@ use jv_data::{NoMemory, Val};
 const MOST: usize = 65_536;
 
 impl<'s> Context<'s> {
-    /// `reduce f as $x (g; h)`. If the state would be a copy of a large input, and the source has few outputs, the machine runs
-    /// the filter.
-    #[cycle(single)]
-    #[inline(never)]
-    pub(crate) fn reduce(
-        &self,
-        source: &'s Tree,
-        pattern: &'s Pattern,
-        start: &'s Tree,
-        update: &'s Tree,
-        value: &Val,
-    ) -> Result<Val, Stop>
-        ensures { RunsTo self.now (form.reduce (named source.now) (named_as_pattern pattern.now) (named start.now) (named update.now)) (view value.now) result }
-    {
-        match pattern {
-            Pattern::Whole(name) => {
-                if copies(start, value) && !self.may_copy(source, value) {
-                    return Err(Stop::Unknown);
-                }
-                let state = self.get(start, value)?;
-                self.fold(source, name, state, update, value)
-            }
-            _ => Err(Stop::Unknown),
-        }
-    }
-
-    /// Whether a source has so many outputs that a fold may change a copy of its input.
-    #[cycle(single)]
-    #[inline(never)]
-    pub(crate) fn may_copy(&self, source: &'s Tree, value: &Val) -> bool {
-        let mut values = Vec::new(self.alloc);
-        match self.gather_source(source, value, MOST, &mut values) {
-            Ok(()) => pays_for_copy(value, values.as_slice()),
-            Err(_stop) => values.len() >= MOST,
-        }
-    }
-
-    /// The outputs of a source. A source that is run only to find them out has half of the fuel, so that folds in the
-    /// sources of folds are not run more often at each level.
-    #[cycle(single)]
-    #[inline(never)]
-    pub(crate) fn gather_source(
-        &self,
-        source: &'s Tree,
-        value: &Val,
-        most: usize,
-        into: &mut Vec<Val>,
-    ) -> Result<(), Stop>
-        requires { into.old.items ≡ [] }
-        ensures { GathersAll self.now (named source.now) (view value.now) result into.new.items }
-    {
-        let input = Item::plain(value.copy()?);
-        let end = Rest::End(most);
-        let tried = Context {
-            fuel: self.fuel / 2,
-            ..*self
-        };
-        tried.gather(&*source, &input, &end, into)
-    }
-
-    /// `reduce f as $x (g; h)`, whose result replaces the input.
+    /// `reduce f as $x (g; h)`, whose result replaces the input. A pattern other than one variable is not matched at once.
     #[cycle(single)]
     #[inline(never)]
     pub(crate) fn change_reduce(
@@ -96,71 +36,84 @@ impl<'s> Context<'s> {
         ensures runs { ChangesTo self.now (form.reduce (named source.now) (named_as_pattern pattern.now) (named start.now) (named update.now)) (view value.old) (view value.new) result }
         ensures keeps { Keeps result (view value.old) (view value.new) }
     {
+        let Pattern::Whole(name) = pattern else {
+            return Err(Stop::Unknown);
+        };
         match start {
-            Tree::Identity if !self.kept => match pattern {
-                Pattern::Whole(name) => self.change_fold(source, name, update, value),
-                _ => Err(Stop::Unknown),
-            },
-            _ => match self.reduce(source, pattern, start, update, value) {
-                Ok(output) => {
-                    *value = output;
-                    Ok(())
-                }
-                Err(stop) => Err(stop),
-            },
+            Tree::Identity if !self.kept => self.change_fold(source, name, start, update, value),
+            _ => self.change_from(source, name, start, update, value),
         }
     }
 
     // The fold of the input. With one output of the source the input is changed in place; with more a copy of it is, since a
-    // later step may be one that is not run at once.
+    // later step may be one that is not run at once. A source that is run only to find this out has half of the fuel, so that
+    // folds in the sources of folds are not run more often at each level.
     #[cycle(single)]
     #[inline(never)]
     fn change_fold(
         &self,
         source: &'s Tree,
         name: &'s String,
+        start: &'s Tree,
         update: &'s Tree,
         value: &mut Val,
     ) -> Result<(), Stop>
-        ensures runs { FoldsIn self.now (named source.now) (text_of name.now) (named update.now) (view value.old) (view value.new) result }
+        ensures runs { named start.now ≡ form.identity → FoldsAs self.now (named source.now) (text_of name.now) (named start.now) (named update.now) (view value.old) (view value.new) result }
         ensures keeps { Keeps result (view value.old) (view value.new) }
     {
         let mut values = Vec::new(self.alloc);
-        match self.gather_source(source, value, 2, &mut values) {
+        let tried = Context {
+            fuel: self.fuel / 2,
+            ..*self
+        };
+        match tried.collect(source, value, 2, &mut values) {
             Ok(()) => match single_of(values.as_slice()) {
                 Some(single) => self.step(name, update, single, value),
-                None => self.change_copy(source, name, update, value),
+                None => self.change_from(source, name, start, update, value),
             },
-            Err(_stop) => self.change_copy(source, name, update, value),
+            Err(_stop) => self.change_from(source, name, start, update, value),
         }
     }
 
-    // The fold of a copy of the input.
+    // The fold of a state that is made first. If the state would be a copy of a large input, and the source has few outputs, the
+    // machine runs the filter.
     #[cycle(single)]
-    fn change_copy(
+    #[inline(never)]
+    fn change_from(
         &self,
         source: &'s Tree,
         name: &'s String,
+        start: &'s Tree,
         update: &'s Tree,
         value: &mut Val,
     ) -> Result<(), Stop>
-        ensures runs { FoldsIn self.now (named source.now) (text_of name.now) (named update.now) (view value.old) (view value.new) result }
+        ensures runs { FoldsAs self.now (named source.now) (text_of name.now) (named start.now) (named update.now) (view value.old) (view value.new) result }
         ensures keeps { Keeps result (view value.old) (view value.new) }
     {
-        if !self.may_copy(source, value) {
+        if copies(start, value) && !self.may_copy(source, value) {
             return Err(Stop::Unknown);
         }
-        let state = value.copy()?;
-        match self.fold(source, name, state, update, value) {
-            Ok(state) => {
-                *value = state;
-                Ok(())
-            }
-            Err(stop) => Err(stop),
+        let state = self.get(start, value)?;
+        self.fold(source, name, state, update, value)
+    }
+
+    // Whether a source has so many outputs that a fold may change a copy of its input.
+    #[cycle(single)]
+    #[inline(never)]
+    fn may_copy(&self, source: &'s Tree, value: &Val) -> bool {
+        let mut values = Vec::new(self.alloc);
+        let tried = Context {
+            fuel: self.fuel / 2,
+            ..*self
+        };
+        match tried.collect(source, value, MOST, &mut values) {
+            Ok(()) => pays_for_copy(value, values.as_slice()),
+            Err(_stop) => values.len() >= MOST,
         }
     }
 
-    // The last state, from a known state. The list has one value, the state, which each output of the source changes.
+    // The last state, from a known state, replaces the input. The list has one value, the state, which each output of the source
+    // changes.
     #[cycle(single)]
     fn fold(
         &self,
@@ -168,9 +121,10 @@ impl<'s> Context<'s> {
         name: &'s String,
         state: Val,
         update: &'s Tree,
-        value: &Val,
-    ) -> Result<Val, Stop>
-        ensures { FoldsFrom self.now (named source.now) (text_of name.now) (named update.now) (view state) (view value.now) result }
+        value: &mut Val,
+    ) -> Result<(), Stop>
+        ensures runs { FoldsFrom self.now (named source.now) (text_of name.now) (named update.now) (view state) (view value.old) (view value.new) result }
+        ensures keeps { Keeps result (view value.old) (view value.new) }
     {
         let mut states = Vec::new(self.alloc);
         keep(&mut states, state)?;
@@ -178,7 +132,10 @@ impl<'s> Context<'s> {
         let update = Rest::Fold(&*name, &*update, &*self);
         match (&*self).gather(&*source, &input, &update, &mut states) {
             Ok(()) => match take(&mut states) {
-                Some(state) => Ok(state),
+                Some(state) => {
+                    *value = state;
+                    Ok(())
+                }
                 None => Err(Stop::Unknown),
             },
             Err(stop) => Err(stop),
@@ -201,20 +158,19 @@ impl<'s> Context<'s> {
         let Some(mut state) = take(states) else {
             return Err(Stop::Unknown);
         };
-        let scope = Scope::Value(&*context.scope, &*name, &*value);
         let inside = Context {
-            scope: &scope,
+            scope: context.scope,
             depth: context.depth,
             kept: false,
             ..*self
         };
-        match inside.change_to_next(&*update, &mut state) {
+        match inside.step(name, update, value, &mut state) {
             Ok(()) => Ok(keep(states, state)?),
             Err(stop) => Err(stop),
         }
     }
 
-    // A step of a fold: the variable is bound to a value, and the update changes the state.
+    // A step of a fold: the variable is bound to a value, and the output of the update replaces the state, or null if it has none.
     #[cycle(single)]
     fn step(
         &self,
@@ -231,16 +187,7 @@ impl<'s> Context<'s> {
             scope: &scope,
             ..*self
         };
-        inside.change_to_next(&*update, state)
-    }
-
-    // The output of the update replaces the state, or null if it has none.
-    #[cycle(single)]
-    fn change_to_next(&self, update: &'s Tree, state: &mut Val) -> Result<(), Stop>
-        ensures runs { Steps self.now (named update.now) (view state.old) (view state.new) result }
-        ensures keeps { Keeps result (view state.old) (view state.new) }
-    {
-        match self.change(update, state) {
+        match inside.change(&*update, state) {
             Ok(()) => Ok(()),
             Err(Stop::Nothing) => {
                 *state = Val::Null;
@@ -264,7 +211,7 @@ pub(crate) fn single_of(values: &[Val]) -> Option<&Val>
 }
 
 // The state is the last value of a list.
-#[tactic(auto, using(crate::proofs::Folded::last_or_end))]
+#[tactic(auto, using(crate::proofs::Binding::last_or_end))]
 fn keep(states: &mut Vec<Val>, state: Val) -> Result<(), NoMemory>
     ensures { OnOk result (state_in states.new.items ≡ plain (view state)) }
 {

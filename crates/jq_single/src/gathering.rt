@@ -1,25 +1,52 @@
-// The outputs of a filter, each passed on to the rest of the filter.
-ghost use Rattle.std.specs.Prelude.{map};
-ghost use Rattle.jq_ast.specs.Named.{name_of, named, named_as_pattern};
+// The outputs of a filter, each passed on to the rest of the filter: paths, and the numbers of `range(f; g)`, too. No list of them is kept.
+ghost use Rattle.std.specs.Prelude.{map, ◌≡◌, ◌++◌, ◌∷◌, [], MatchOption, OnOk, ℕ, List, IfOk};
+ghost use Rattle.jq_ast.specs.Named.{named, named_as_pattern};
 ghost use Rattle.jq_tree.specs.Tree.{trees_of};
-ghost use Rattle.jq_tree.specs.Tree as form;
 ghost use Rattle.jq_operations.specs.Language.{meaning_of};
 ghost use Rattle.jq_state.specs.Items.{item_of};
 ghost use Rattle.jq_operations.specs.Entering.{defined};
-ghost use Rattle.jq_single.specs.private.Gathering.{GathersBelow, GathersBuiltin, GathersOf};
+ghost use Rattle.jq_single.specs.private.Gathering.{GathersAll, GathersBelow, GathersBuiltin, GathersOf, Gathers, GathersRun, given_of, made, numbers_from, supplied};
+ghost use Rattle.jq_single.specs.private.Parts.{Calls};
+ghost use Rattle.jv_data.specs.Value.{Value};
+ghost use Rattle.jv_data.specs.View.{view};
+ghost use Rattle.jq_meaning.specs.machine.Operations.{result_of};
+ghost use Rattle.jq_state.specs.Steps.{operation_of};
+ghost use Rattle.jq_meaning.specs.Runs.{Run, before, none, one, value_in, located, plain};
+ghost use Rattle.jq_operations.specs.Outputs.{outputs_of};
+ghost use Rattle.jq_single.specs.Single.{Ends};
+ghost use Rattle.jq_ast.specs.Leaves.{key_of};
+ghost use Rattle.jq_tree.specs.Tree as form;
+ghost use Rattle.jq_meaning.specs.Runs as runs;
+ghost use Rattle.jq_meaning.specs.Builtins as meaning;
 
-use crate::calling::scope_of_call;
+use crate::changing::scope_of_call;
 use crate::contexts::Context;
-use crate::finding::{Found, callee_of, prelude_of};
-use crate::giving::ended;
+use crate::finding::Found;
 use crate::rests::Rest;
 use crate::scopes::Scope;
 use crate::stops::Stop;
-use jq_ast::{Function, Name, Pattern, Tree};
+use jq_ast::{Function, Key, Pattern, Tree};
 use jq_natives::truth;
-use jq_operations::{Builtin, builtin_named};
-use jq_state::items::Item;
-use jv_data::Val;
+use jq_operations::{Builtin, Outputs, run};
+use jq_state::items::{Item, Path};
+use jq_state::numbers::{is_before, number_after};
+use jq_state::steps::Operation;
+use jv_data::{NoMemory, Val};
+use std::alloc::Global;
+
+/// Items that are given one by one: those of a vector, the last one first, or whole numbers.
+#[derive(Drop)]
+pub(crate) enum Supply {
+    Items(Vec<Item>),
+    Numbers(Numbers),
+}
+
+/// The whole numbers from `next` on, if there is one, up to but not including `end`.
+#[derive(Drop)]
+pub(crate) struct Numbers {
+    next: Option<i64>,
+    end: i64,
+}
 
 impl<'s> Context<'s> {
     /// Runs a filter in a scope, and the rest on each of its outputs. The values at the end are added to a list.
@@ -40,49 +67,55 @@ impl<'s> Context<'s> {
             fuel: self.fuel - 1,
             ..*self
         };
-        inside.gather_form(tree, item, rest, into)
-    }
-
-    // The same, with the fuel for the parts.
-    #[cycle(single)]
-    #[inline(always)]
-    fn gather_form(
-        &self,
-        tree: &'s Tree,
-        item: &Item,
-        rest: &Rest<'s>,
-        into: &mut Vec<Val>,
-    ) -> Result<(), Stop>
-        ensures { GathersOf self.now (named tree.now) (item_of item.now) rest.now result into.old.items into.new.items }
-    {
         match tree {
-            Tree::Identity => self.give(item.copy()?, rest, into),
+            Tree::Identity => inside.give(item.copy()?, rest, into),
             Tree::Iterate(target, guarded) => {
-                self.gather_parts(target, *guarded, item, rest, into)
+                inside.gather_parts(target, *guarded, item, rest, into)
             }
             Tree::Field(target, key, guarded) if item.path.is_present() => {
-                self.gather_field(target, key, *guarded, item, rest, into)
+                inside.gather_field(target, key, *guarded, item, rest, into)
             }
             Tree::Index(target, key, guarded) if item.path.is_present() => {
-                self.gather_index(target, key, *guarded, item, rest, into)
+                inside.gather_index(target, key, *guarded, item, rest, into)
             }
-            Tree::Pipe(first, second) => self.gather_pipe(first, second, item, rest, into),
-            Tree::Comma(first, second) => self.gather_comma(first, second, item, rest, into),
+            Tree::Pipe(first, second) => inside.gather_pipe(first, second, item, rest, into),
+            Tree::Comma(first, second) => inside.gather_comma(first, second, item, rest, into),
             Tree::Choice(condition, holds, fails) => {
-                self.gather_choice(condition, holds, fails, item, rest, into)
+                inside.gather_choice(condition, holds, fails, item, rest, into)
             }
             Tree::BindAs(source, pattern, body) => {
-                self.gather_binding(source, pattern, body, item, rest, into)
+                inside.gather_binding(source, pattern, body, item, rest, into)
             }
             Tree::Define(function, later) => {
-                self.gather_define(function, later, item, rest, into)
+                inside.gather_define(function, later, item, rest, into)
             }
-            Tree::Call(name, arguments) => self.gather_call(name, arguments, item, rest, into),
+            Tree::Call(name, arguments) => {
+                inside.gather_call(inside.called(name, arguments), arguments, item, rest, into)
+            }
             Tree::PreludeCall(name, arguments) => {
-                self.gather_prelude_call(name, arguments, item, rest, into)
+                let found = inside.called_in_prelude(name, arguments);
+                inside.gather_call(found, arguments, item, rest, into)
             }
-            _ => self.gather_one(tree, item, rest, into),
+            _ => inside.gather_one(tree, item, rest, into),
         }
+    }
+
+    /// All outputs of a filter on a value, in a list that takes at most so many.
+    #[cycle(single)]
+    #[inline(never)]
+    pub(crate) fn collect(
+        &self,
+        tree: &'s Tree,
+        value: &Val,
+        most: usize,
+        into: &mut Vec<Val>,
+    ) -> Result<(), Stop>
+        requires { into.old.items ≡ [] }
+        ensures { GathersAll self.now (named tree.now) (view value.now) result into.new.items }
+    {
+        let input = Item::plain(value.copy()?);
+        let end = Rest::End(most);
+        (&*self).gather(&*tree, &input, &end, into)
     }
 
     // A filter of at most one output. On an item with a path it is not run at once.
@@ -233,53 +266,29 @@ impl<'s> Context<'s> {
         inside.gather(&*later, item, &*rest, into)
     }
 
-    // `a(f; g)`: a call of a function, of a filter that was passed, or of a name of the language.
+    // A call, by what it finds.
     #[cycle(single)]
     #[inline(never)]
     fn gather_call(
         &self,
-        name: &Name,
+        found: Found<'s>,
         arguments: &'s Vec<Tree>,
         item: &Item,
         rest: &Rest<'s>,
         into: &mut Vec<Val>,
     ) -> Result<(), Stop>
-        ensures { GathersOf self.now (form.call (name_of name.now) (trees_of (map named arguments.now.items))) (item_of item.now) rest.now result into.old.items into.new.items }
+        ensures { (t : form.Tree) → Calls self.now t arguments.now.items found.entry → GathersOf self.now t (item_of item.now) rest.now result into.old.items into.new.items }
     {
-        let count = arguments.len();
-        match callee_of(self.scope, name, count) {
+        match found {
             Found::Function(function, own) => {
                 let scope = scope_of_call(&own, &*function, &*arguments, &*self.scope);
                 (&*self).gather_body(&function.body, &scope, item, &*rest, into)
             }
             Found::Closure(body, own) => self.gather_body(body, &own, item, rest, into),
-            Found::Nothing => {
-                let builtin = builtin_named(name.text.as_str(), count);
+            Found::Builtin(builtin) => {
                 self.gather_builtin(builtin, arguments.as_slice(), item, rest, into)
             }
-        }
-    }
-
-    // A call of the prelude's own function.
-    #[cycle(single)]
-    #[inline(never)]
-    fn gather_prelude_call(
-        &self,
-        name: &Name,
-        arguments: &'s Vec<Tree>,
-        item: &Item,
-        rest: &Rest<'s>,
-        into: &mut Vec<Val>,
-    ) -> Result<(), Stop>
-        ensures { GathersOf self.now (form.prelude_call (name_of name.now) (trees_of (map named arguments.now.items))) (item_of item.now) rest.now result into.old.items into.new.items }
-    {
-        let count = arguments.len();
-        match prelude_of(self.scope, name, count) {
-            Found::Function(function, own) => {
-                let scope = scope_of_call(&own, &*function, &*arguments, &*self.scope);
-                (&*self).gather_body(&function.body, &scope, item, &*rest, into)
-            }
-            _ => Err(Stop::Unknown),
+            Found::Nothing => Err(Stop::Unknown),
         }
     }
 
@@ -306,7 +315,7 @@ impl<'s> Context<'s> {
         inside.gather(&*body, item, &*rest, into)
     }
 
-    // A name of the language. On an item with a path it is not run at once.
+    // A name of the language, whose answer replaces a copy of the input. On an item with a path it is not run at once.
     #[cycle(single)]
     #[inline(never)]
     fn gather_builtin(
@@ -325,13 +334,295 @@ impl<'s> Context<'s> {
         match builtin {
             Builtin::Range => self.gather_range(arguments, &item.value, rest, into),
             Builtin::Paths => self.gather_paths(arguments, &item.value, rest, into),
-            _ => match self.get_builtin(builtin, arguments, &item.value) {
-                Ok(found) => {
-                    let output = Item::plain(found);
-                    self.give(output, rest, into)
+            _ => {
+                let inside = Context {
+                    kept: true,
+                    ..*self
+                };
+                let mut found = item.value.copy()?;
+                match inside.change_builtin(builtin, arguments, &mut found) {
+                    Ok(()) => self.give(Item::plain(found), rest, into),
+                    Err(stop) => ended(stop),
                 }
-                Err(stop) => ended(stop),
-            },
+            }
         }
     }
+
+    // Runs the rest of the filter on an output.
+    #[cycle(single)]
+    fn give(&self, item: Item, rest: &Rest<'s>, into: &mut Vec<Val>) -> Result<(), Stop>
+        ensures { GathersRun (one (item_of item)) rest.now result into.old.items into.new.items }
+    {
+        match rest {
+            Rest::End(most) => {
+                if into.len() >= *most {
+                    return Err(Stop::Unknown);
+                }
+                Ok(add(into, item)?)
+            }
+            Rest::Then(tree, context, later) => {
+                let inside = Context {
+                    scope: context.scope,
+                    depth: context.depth,
+                    kept: true,
+                    ..*self
+                };
+                inside.gather(*tree, &item, *later, into)
+            }
+            Rest::Bind(name, body, context, input, later) => {
+                let scope = Scope::Value(&*context.scope, &**name, &item.value);
+                let inside = Context {
+                    scope: &scope,
+                    depth: context.depth,
+                    kept: true,
+                    ..*self
+                };
+                inside.gather(&**body, *input, &**later, into)
+            }
+            Rest::Field(key, guarded, later) => {
+                self.give_step(Operation::Field(*key, *guarded), item, *later, into)
+            }
+            Rest::At(key, guarded, later) => {
+                let key = key.copy()?;
+                self.give_step(Operation::PartAtKey(*guarded, key), item, *later, into)
+            }
+            Rest::Parts(guarded, later) => {
+                self.give_step(Operation::EveryPart(*guarded), item, *later, into)
+            }
+            Rest::Path(later) => self.give_step(Operation::PathValue, item, *later, into),
+            Rest::Fold(name, update, context) => {
+                self.turn(*name, *update, *context, &item.value, into)
+            }
+        }
+    }
+
+    // Takes a step, and runs the rest on where it leads to.
+    #[cycle(single)]
+    #[inline(never)]
+    fn give_step(
+        &self,
+        operation: Operation<'_>,
+        item: Item,
+        later: &Rest<'s>,
+        into: &mut Vec<Val>,
+    ) -> Result<(), Stop>
+        ensures { GathersRun (result_of (operation_of operation.entry) (item_of item)) later.now result into.old.items into.new.items }
+    {
+        if self.fuel == 0 {
+            return Err(Stop::Unknown);
+        }
+        let inside = Context {
+            fuel: self.fuel - 1,
+            ..*self
+        };
+        let outputs = run(self.alloc, operation, item)?;
+        inside.give_outputs(outputs, later, into)
+    }
+
+    // Runs the rest of the filter on the outputs of a step.
+    #[cycle(single)]
+    fn give_outputs(
+        &self,
+        outputs: Outputs,
+        rest: &Rest<'s>,
+        into: &mut Vec<Val>,
+    ) -> Result<(), Stop>
+        ensures { GathersRun (outputs_of outputs) rest.now result into.old.items into.new.items }
+    {
+        match outputs {
+            Outputs::Nothing => Ok(()),
+            Outputs::One(item) => self.give(item, rest, into),
+            Outputs::Several(items) => self.give_all(Supply::Items(items), rest, into),
+            // A step never makes numbers of a range.
+            Outputs::Numbers(_, _, _) => Err(Stop::Unknown),
+            Outputs::Error(error) => Err(Stop::Raised(error)),
+            // Nor does it halt.
+            Outputs::Stopped(_) => Err(Stop::Unknown),
+        }
+    }
+
+    // Runs the rest of the filter on items that are given one by one.
+    #[cycle(single)]
+    fn give_all(&self, mut supply: Supply, rest: &Rest<'s>, into: &mut Vec<Val>) -> Result<(), Stop>
+        ensures { GathersRun (supplied supply) rest.now result into.old.items into.new.items }
+    {
+        while let Some(item) = take_item(&mut supply) {
+            match self.give(item, rest, into) {
+                Ok(()) => {}
+                Err(stop) => return Err(stop),
+            }
+        }
+        Ok(())
+    }
+
+    // `f.a` on an item with a path.
+    #[cycle(single)]
+    #[inline(never)]
+    fn gather_field(
+        &self,
+        target: &'s Tree,
+        key: &'s Key,
+        guarded: bool,
+        item: &Item,
+        rest: &Rest<'s>,
+        into: &mut Vec<Val>,
+    ) -> Result<(), Stop>
+        ensures { GathersOf self.now (form.field (named target.now) (key_of key.now) guarded) (item_of item.now) rest.now result into.old.items into.new.items }
+    {
+        let next = Rest::Field(&*key, guarded, &*rest);
+        (&*self).gather(&*target, item, &next, into)
+    }
+
+    // `f[g]` on an item with a path: the key is run first.
+    #[cycle(single)]
+    #[inline(never)]
+    fn gather_index(
+        &self,
+        target: &'s Tree,
+        key: &'s Tree,
+        guarded: bool,
+        item: &Item,
+        rest: &Rest<'s>,
+        into: &mut Vec<Val>,
+    ) -> Result<(), Stop>
+        ensures { GathersOf self.now (form.index (named target.now) (named key.now) guarded) (item_of item.now) rest.now result into.old.items into.new.items }
+    {
+        match self.get(key, &item.value) {
+            Ok(found) => {
+                let next = Rest::At(&found, guarded, &*rest);
+                (&*self).gather(&*target, item, &next, into)
+            }
+            Err(stop) => ended(stop),
+        }
+    }
+
+    // `path(f)`.
+    #[cycle(single)]
+    #[inline(never)]
+    fn gather_paths(
+        &self,
+        arguments: &'s [Tree],
+        value: &Val,
+        rest: &Rest<'s>,
+        into: &mut Vec<Val>,
+    ) -> Result<(), Stop>
+        ensures { GathersBuiltin self.now meaning.paths (trees_of (map named arguments.now)) (plain (view value.now)) rest.now result into.old.items into.new.items }
+    {
+        match arguments {
+            [argument] => {
+                let start = start_at(self.alloc, value)?;
+                let next = Rest::Path(&*rest);
+                (&*self).gather(&*argument, &start, &next, into)
+            }
+            _ => Err(Stop::Unknown),
+        }
+    }
+
+    // `range(f; g)`, where f and g have at most one output.
+    #[cycle(single)]
+    #[inline(never)]
+    fn gather_range(
+        &self,
+        arguments: &'s [Tree],
+        value: &Val,
+        rest: &Rest<'s>,
+        into: &mut Vec<Val>,
+    ) -> Result<(), Stop>
+        ensures { GathersBuiltin self.now meaning.range (trees_of (map named arguments.now)) (plain (view value.now)) rest.now result into.old.items into.new.items }
+    {
+        match arguments {
+            [start, end] => match self.get_two(start, end, value) {
+                Ok((first, last)) => self.give_range(&first, &last, rest, into),
+                Err(stop) => ended(stop),
+            },
+            _ => Err(Stop::Unknown),
+        }
+    }
+
+    // Runs the rest of the filter on each number between two values. If one of them is not a number, the machine runs the filter.
+    #[cycle(single)]
+    fn give_range(
+        &self,
+        start: &Val,
+        end: &Val,
+        rest: &Rest<'s>,
+        into: &mut Vec<Val>,
+    ) -> Result<(), Stop>
+        ensures { GathersRun (meaning.range_of (view start.now ∷ view end.now ∷ [])) rest.now result into.old.items into.new.items }
+    {
+        match (start, end) {
+            (Val::Num(start), Val::Num(end)) => {
+                let numbers = Numbers {
+                    next: Some(*start),
+                    end: *end,
+                };
+                self.give_all(Supply::Numbers(numbers), rest, into)
+            }
+            _ => Err(Stop::Unknown),
+        }
+    }
+}
+
+// Adds the value of an item to a list.
+fn add(into: &mut Vec<Val>, item: Item) -> Result<(), NoMemory>
+    ensures { OnOk result (map view into.new.items ≡ map view into.old.items ++ value_in (item_of item) ∷ []) }
+{
+    into.push(item.value)?;
+    Ok(())
+}
+
+// A run without output has ended, or ends with an error, whatever the rest of the filter is.
+fn ended(stop: Stop) -> Result<(), Stop>
+    ensures { (inputs : Run Value) (level : ℕ) (later : Rest) (r : Run runs.Item) (xs : List Val) → Ends stop r → Gathers (made inputs level later) result xs xs r }
+{
+    match stop {
+        Stop::Nothing => Ok(()),
+        Stop::Raised(error) => Err(Stop::Raised(error)),
+        Stop::NoMemory => Err(Stop::NoMemory),
+        Stop::Unknown => Err(Stop::Unknown),
+    }
+}
+
+// Takes the first item out of a supply.
+fn take_item(supply: &mut Supply) -> Option<Item>
+    ensures { MatchOption result (supplied supply.old ≡ none) (λ x. supplied supply.old ≡ before (item_of x ∷ []) (supplied supply.new)) }
+{
+    match supply {
+        Supply::Items(items) => take_last(items),
+        Supply::Numbers(numbers) => match take_number(numbers) {
+            Some(value) => Some(Item::plain(value)),
+            None => None,
+        },
+    }
+}
+
+// Takes the first item, which is the last element of the vector.
+fn take_last(items: &mut Vec<Item>) -> Option<Item>
+    ensures { MatchOption result (given_of items.old.items ≡ none) (λ x. given_of items.old.items ≡ before (item_of x ∷ []) (given_of items.new.items)) }
+{
+    match items.pop() {
+        Some(item) => Some(item),
+        None => None,
+    }
+}
+
+/// A value with an empty path.
+pub(crate) fn start_at(alloc: Global, value: &Val) -> Result<Item, NoMemory>
+    ensures { IfOk result (λ x. item_of x ≡ located (view value.now) []) }
+{
+    let value = value.copy()?;
+    let path = Path::empty(alloc)?;
+    Ok(Item { value, path })
+}
+
+// Takes the first number out.
+fn take_number(numbers: &mut Numbers) -> Option<Val>
+    ensures { MatchOption result (numbers_from numbers.old ≡ none) (λ v. numbers_from numbers.old ≡ before (plain (view v) ∷ []) (numbers_from numbers.new)) }
+{
+    let number = numbers.next?;
+    if !is_before(number, numbers.end, 1) {
+        return None;
+    }
+    numbers.next = number_after(number, numbers.end, 1);
+    Some(Val::Num(number))
 }

@@ -1,16 +1,31 @@
-// The output of a filter on a value that is kept.
-ghost use Rattle.std.specs.Prelude.{◌≡◌, false};
+// The output of a filter on a value that is kept: forms that make a value from those of their parts, and copies that others change.
+ghost use Rattle.std.specs.Prelude.{ℕ, List, []};
 ghost use Rattle.jv_data.specs.View.{view};
-ghost use Rattle.jq_ast.specs.Named.{named};
-ghost use Rattle.jq_single.specs.private.Parts.{RunsTo};
+ghost use Rattle.jq_ast.specs.Named.{named, name_of, named_entry};
+ghost use Rattle.jq_single.specs.private.Parts.{RunsTo, Answers, Follows, GetsTwo, decided};
+ghost use Rattle.jq_meaning.specs.Continuations.{on_target, format_of, put_between, text_item};
+ghost use Rattle.jq_meaning.specs.Runs.{plain, bind};
+ghost use Rattle.jv_data.specs.Shared.{text_in};
+ghost use Rattle.jv_data.specs.Text.{text_of};
+ghost use Rattle.jv_text.specs.Formats.{Text};
+ghost use Rattle.jq_operations.specs.Outputs.{Inserts};
+ghost use Rattle.jq_operations.specs.Pieces.{named_pieces};
+ghost use Rattle.jq_single.specs.private.Making.{AddsEntry, AddsKeyed, AddsMember, RunsPieces, TextAnswers};
+ghost use Rattle.jv_data.specs.Held.{members_in};
+ghost use Rattle.jq_state.specs.Steps.{named_entries};
+ghost use Rattle.jq_tree.specs.Tree as form;
 
 use crate::contexts::Context;
 use crate::finding::value_of;
-use crate::stops::Stop;
-use crate::strings::get_format;
-use jq_ast::Tree;
-use jq_operations::literal;
-use jv_data::Val;
+use crate::stops::{Stop, answer, refused};
+use jq_ast::{Entry, Name, Piece, Tree};
+use jq_natives::truth;
+use jq_operations::entries::with_member;
+use jq_operations::{Inserted, entry_key, key_error, literal, slice_key, text_in_format};
+use jv_arith::neg;
+use jv_data::{Array, Fail, Object, SharedText, Val};
+use jv_value::index;
+use std::alloc::Global;
 
 impl<'s> Context<'s> {
     /// The output of a filter in a scope. It is unknown if the filter has a form that is not run at once, or is nested too deep.
@@ -25,7 +40,17 @@ impl<'s> Context<'s> {
             fuel: self.fuel - 1,
             ..*self
         };
-        inside.get_form(tree, value)
+        match tree {
+            Tree::Binary(_, _, _) => inside.get_changed(tree, value),
+            Tree::Choice(_, _, _) => inside.get_changed(tree, value),
+            Tree::BindAs(_, _, _) => inside.get_changed(tree, value),
+            Tree::Define(_, _) => inside.get_changed(tree, value),
+            Tree::Call(_, _) => inside.get_changed(tree, value),
+            Tree::PreludeCall(_, _) => inside.get_changed(tree, value),
+            Tree::Update(_, _) => inside.get_changed(tree, value),
+            Tree::Reduce(_, _, _, _) => inside.get_changed(tree, value),
+            _ => inside.get_made(tree, value),
+        }
     }
 
     /// The same for a part that is often the input or a constant.
@@ -41,10 +66,25 @@ impl<'s> Context<'s> {
         }
     }
 
-    // The same, with the fuel for the parts.
+    /// The outputs of two filters, where the second is run after the first.
     #[cycle(single)]
-    #[inline(always)]
-    fn get_form(&self, tree: &'s Tree, value: &Val) -> Result<Val, Stop>
+    pub(crate) fn get_two(
+        &self,
+        first: &'s Tree,
+        second: &'s Tree,
+        value: &Val,
+    ) -> Result<(Val, Val), Stop>
+        ensures { GetsTwo self.now (named first.now) (named second.now) (view value.now) result }
+    {
+        let one = self.get(first, value)?;
+        let other = self.get(second, value)?;
+        Ok((one, other))
+    }
+
+    /// The output of a filter that makes a value from those of its parts.
+    #[cycle(single)]
+    #[inline(never)]
+    pub(crate) fn get_made(&self, tree: &'s Tree, value: &Val) -> Result<Val, Stop>
         ensures { RunsTo self.now (named tree.now) (view value.now) result }
     {
         match tree {
@@ -54,27 +94,17 @@ impl<'s> Context<'s> {
             Tree::Text(format, pieces, last) => self.text(format, pieces.as_slice(), last, value),
             Tree::Format(format) => get_format(self.alloc, format, value),
             Tree::Variable(name) => Ok(value_of(self.scope, name)?),
-            Tree::Field(target, key, guarded) => self.field(target, key, *guarded, value),
+            Tree::Field(target, key, guarded) => self.field(target, key.value(), *guarded, value),
             Tree::Index(target, key, guarded) => self.index(target, key, *guarded, value),
             Tree::Slice(target, from, to, guarded) => self.slice(target, from, to, *guarded, value),
             Tree::Pipe(first, second) => self.pipe(first, second, value),
-            Tree::Binary(operator, left, right) => self.binary(*operator, left, right, value),
-            Tree::And(left, right) => self.and(left, right, value),
-            Tree::Or(left, right) => self.or(left, right, value),
+            Tree::And(left, right) => self.decided(false, left, right, value),
+            Tree::Or(left, right) => self.decided(true, left, right, value),
             Tree::Alternative(left, right) => self.alternative(left, right, value),
             Tree::Negation(operand) => self.negation(operand, value),
             Tree::Array(filter) => self.array(filter, value),
             Tree::Object(entries) => self.object(entries.as_slice(), value),
             Tree::TryCatch(body, handler) => self.try_catch(body, handler, value),
-            Tree::Reduce(source, pattern, start, update) => {
-                self.reduce(source, pattern, start, update, value)
-            }
-            Tree::Choice(condition, holds, fails) => self.choice(condition, holds, fails, value),
-            Tree::Call(name, arguments) => self.get_call(name, arguments, value),
-            Tree::BindAs(_, _, _) => self.get_changed(tree, value),
-            Tree::Define(_, _) => self.get_changed(tree, value),
-            Tree::PreludeCall(_, _) => self.get_changed(tree, value),
-            Tree::Update(_, _) => self.get_changed(tree, value),
             _ => Err(Stop::Unknown),
         }
     }
@@ -94,5 +124,307 @@ impl<'s> Context<'s> {
             Ok(()) => Ok(output),
             Err(stop) => Err(stop),
         }
+    }
+
+    // `f.a`, or the part of the output of a filter at a key that is known.
+    #[cycle(single)]
+    #[inline(never)]
+    fn field(&self, target: &'s Tree, key: &Val, guarded: bool, value: &Val) -> Result<Val, Stop>
+        ensures { Follows self.now (named target.now) (view value.now) (on_target guarded (view key.now)) result }
+    {
+        let found = self.get_part(target, value)?;
+        part_at(self.alloc, guarded, &found, key)
+    }
+
+    // `f[g]`: the key is run first.
+    #[cycle(single)]
+    #[inline(never)]
+    fn index(
+        &self,
+        target: &'s Tree,
+        key: &'s Tree,
+        guarded: bool,
+        value: &Val,
+    ) -> Result<Val, Stop>
+        ensures { RunsTo self.now (form.index (named target.now) (named key.now) guarded) (view value.now) result }
+    {
+        let at = self.get_part(key, value)?;
+        self.field(target, &at, guarded, value)
+    }
+
+    // `f[g:h]`: the start is run first, and then the end.
+    #[cycle(single)]
+    #[inline(never)]
+    fn slice(
+        &self,
+        target: &'s Tree,
+        from: &'s Tree,
+        to: &'s Tree,
+        guarded: bool,
+        value: &Val,
+    ) -> Result<Val, Stop>
+        ensures { RunsTo self.now (form.slice (named target.now) (named from.now) (named to.now) guarded) (view value.now) result }
+    {
+        let (start, end) = self.get_two(from, to, value)?;
+        let bounds = slice_key(self.alloc, start, end)?;
+        self.field(target, &bounds, guarded, value)
+    }
+
+    // `f | g`.
+    #[cycle(single)]
+    #[inline(never)]
+    fn pipe(&self, first: &'s Tree, second: &'s Tree, value: &Val) -> Result<Val, Stop>
+        ensures { RunsTo self.now (form.pipe (named first.now) (named second.now)) (view value.now) result }
+    {
+        let between = self.get(first, value)?;
+        self.get(second, &between)
+    }
+
+    // `-f`.
+    #[cycle(single)]
+    #[inline(never)]
+    fn negation(&self, operand: &'s Tree, value: &Val) -> Result<Val, Stop>
+        ensures { RunsTo self.now (form.negation (named operand.now)) (view value.now) result }
+    {
+        let found = self.get(operand, value)?;
+        answer(neg(self.alloc, &found))
+    }
+
+    // `[f]`.
+    #[cycle(single)]
+    #[inline(never)]
+    fn array(&self, filter: &'s Tree, value: &Val) -> Result<Val, Stop>
+        ensures { RunsTo self.now (form.array (named filter.now)) (view value.now) result }
+    {
+        let mut items = Vec::new(self.alloc);
+        self.collect(filter, value, usize::MAX, &mut items)?;
+        Ok(Val::List(Array::from_vec(self.alloc, items)?))
+    }
+
+    // `f or g`, where true decides, and `f and g`, where false does. The right side is run if the left side does not decide.
+    #[cycle(single)]
+    #[inline(never)]
+    fn decided(&self, by: bool, left: &'s Tree, right: &'s Tree, value: &Val) -> Result<Val, Stop>
+        ensures { RunsTo self.now (decided by (named left.now) (named right.now)) (view value.now) result }
+    {
+        let first = self.get(left, value)?;
+        if truth(&first) == by {
+            return Ok(Val::Bool(by));
+        }
+        let second = self.get(right, value)?;
+        Ok(Val::Bool(truth(&second)))
+    }
+
+    // `f // g`. An error ends the left side.
+    #[cycle(single)]
+    #[inline(never)]
+    fn alternative(&self, left: &'s Tree, right: &'s Tree, value: &Val) -> Result<Val, Stop>
+        ensures { RunsTo self.now (form.alternative (named left.now) (named right.now)) (view value.now) result }
+    {
+        match self.get(left, value) {
+            Ok(found) => {
+                if truth(&found) {
+                    Ok(found)
+                } else {
+                    self.get(right, value)
+                }
+            }
+            Err(Stop::Nothing) => self.get(right, value),
+            Err(Stop::Raised(_error)) => self.get(right, value),
+            Err(Stop::NoMemory) => Err(Stop::NoMemory),
+            Err(Stop::Unknown) => Err(Stop::Unknown),
+        }
+    }
+
+    // `try f catch g`.
+    #[cycle(single)]
+    #[inline(never)]
+    fn try_catch(&self, body: &'s Tree, handler: &'s Tree, value: &Val) -> Result<Val, Stop>
+        ensures { RunsTo self.now (form.try_catch (named body.now) (named handler.now)) (view value.now) result }
+    {
+        match self.get(body, value) {
+            Ok(found) => Ok(found),
+            Err(Stop::Raised(error)) => self.get(handler, &error),
+            Err(Stop::Nothing) => Err(Stop::Nothing),
+            Err(Stop::NoMemory) => Err(Stop::NoMemory),
+            Err(Stop::Unknown) => Err(Stop::Unknown),
+        }
+    }
+
+    // `"a\(f)b"`, `@name "a\(f)b"`.
+    #[cycle(single)]
+    #[inline(never)]
+    fn text(
+        &self,
+        format: &Name,
+        pieces: &'s [Piece<Tree>],
+        last: &String,
+        value: &Val,
+    ) -> Result<Val, Stop>
+        ensures { RunsTo self.now (form.text (name_of format.now) (named_pieces pieces.now last.now)) (view value.now) result }
+    {
+        match self.pieces(format, pieces, last, value) {
+            Ok(text) => Ok(Val::Text(text)),
+            Err(stop) => Err(stop),
+        }
+    }
+
+    // The text of the remaining pieces.
+    #[cycle(single)]
+    fn pieces(
+        &self,
+        format: &Name,
+        pieces: &'s [Piece<Tree>],
+        last: &String,
+        value: &Val,
+    ) -> Result<SharedText, Stop>
+        ensures { RunsPieces self.now (name_of format.now) (named_pieces pieces.now last.now) (view value.now) result }
+    {
+        match pieces {
+            [] => {
+                let text = String::from_str(self.alloc, last.as_str())?;
+                Ok(SharedText::from_string(self.alloc, text)?)
+            }
+            [piece, later @ ..] => self.first_piece(format, piece, later, last, value),
+        }
+    }
+
+    // A piece, and those after it, which are run first.
+    #[cycle(single)]
+    #[inline(never)]
+    fn first_piece(
+        &self,
+        format: &Name,
+        piece: &'s Piece<Tree>,
+        later: &'s [Piece<Tree>],
+        last: &String,
+        value: &Val,
+    ) -> Result<SharedText, Stop>
+        ensures { RunsPieces self.now (name_of format.now) (form.more_pieces (text_of piece.now.before) (named piece.now.tree) (named_pieces later.now last.now)) (view value.now) result }
+    {
+        if self.fuel == 0 {
+            return Err(Stop::Unknown);
+        }
+        let inside = Context {
+            fuel: self.fuel - 1,
+            ..*self
+        };
+        let back = inside.pieces(format, later, last, value)?;
+        let found = self.get(&piece.tree, value)?;
+        let front = piece.before.as_str();
+        inserted(text_in_format(self.alloc, format, front, &found, back.as_str())?)
+    }
+
+    // `{..}`. An entry that has a computed key and no value is not run at once.
+    #[cycle(single)]
+    #[inline(never)]
+    fn object(&self, entries: &'s [Entry<Tree>], value: &Val) -> Result<Val, Stop>
+        ensures { RunsTo self.now (form.object (named_entries entries.now)) (view value.now) result }
+    {
+        let mut made = Object::new(self.alloc)?;
+        for entry in entries {
+            made = self.with_entry(entry, made, value)?;
+        }
+        Ok(Val::Table(made))
+    }
+
+    // The object that is made so far with the member of an entry.
+    #[cycle(single)]
+    fn with_entry(
+        &self,
+        entry: &'s Entry<Tree>,
+        made: Object<Val>,
+        value: &Val,
+    ) -> Result<Object<Val>, Stop>
+        ensures { AddsEntry self.now (named_entry entry.now) (members_in made) (view value.now) result }
+    {
+        match entry {
+            Entry::Named(key, filter) => {
+                let key = entry_key(key)?;
+                self.member(&key, filter, made, value)
+            }
+            Entry::Computed(key, filter) => self.computed(key, filter, made, value),
+            Entry::Own(_) => Err(Stop::Unknown),
+        }
+    }
+
+    // An entry with a computed key, which is run first.
+    #[cycle(single)]
+    #[inline(never)]
+    fn computed(
+        &self,
+        key: &'s Tree,
+        filter: &'s Tree,
+        made: Object<Val>,
+        value: &Val,
+    ) -> Result<Object<Val>, Stop>
+        ensures { AddsEntry self.now (form.computed (named key.now) (named filter.now)) (members_in made) (view value.now) result }
+    {
+        let found = self.get(key, value)?;
+        self.keyed(found, filter, made, value)
+    }
+
+    // The key of an entry is known. It must be a string.
+    #[cycle(single)]
+    fn keyed(
+        &self,
+        key: Val,
+        filter: &'s Tree,
+        made: Object<Val>,
+        value: &Val,
+    ) -> Result<Object<Val>, Stop>
+        ensures { AddsKeyed self.now (view key) (named filter.now) (members_in made) (view value.now) result }
+    {
+        let Val::Text(_) = &key else {
+            return Err(Stop::Raised(key_error(self.alloc)?));
+        };
+        self.member(&key.into_text(), filter, made, value)
+    }
+
+    // An entry whose key is known.
+    #[cycle(single)]
+    #[inline(never)]
+    fn member(
+        &self,
+        key: &SharedText,
+        filter: &'s Tree,
+        made: Object<Val>,
+        value: &Val,
+    ) -> Result<Object<Val>, Stop>
+        ensures { AddsMember self.now (text_in key.now) (named filter.now) (members_in made) (view value.now) result }
+    {
+        let found = self.get(filter, value)?;
+        Ok(with_member(self.alloc, made, key, found)?)
+    }
+}
+
+// The part of a value at a key.
+fn part_at(alloc: Global, guarded: bool, target: &Val, key: &Val) -> Result<Val, Stop>
+    ensures { Answers result (on_target guarded (view key.now) (plain (view target.now))) }
+{
+    match index(alloc, target, key) {
+        Ok(part) => Ok(part),
+        Err(Fail::Raised(error)) => Err(refused(guarded, error)),
+        Err(Fail::NoMemory) => Err(Stop::NoMemory),
+    }
+}
+
+// A text between two others, or its error.
+fn inserted(text: Inserted) -> Result<SharedText, Stop>
+    ensures { (front back : List ℕ) (expected : Text) → Inserts front expected back text → TextAnswers result (put_between front back expected) }
+{
+    match text {
+        Inserted::Text(text) => Ok(text),
+        Inserted::Error(error) => Err(Stop::Raised(error)),
+    }
+}
+
+// `@name`.
+fn get_format(alloc: Global, format: &Name, value: &Val) -> Result<Val, Stop>
+    ensures { Answers result (bind (put_between [] [] (format_of (name_of format.now) (view value.now))) text_item) }
+{
+    match inserted(text_in_format(alloc, format, "", value, "")?) {
+        Ok(text) => Ok(Val::Text(text)),
+        Err(stop) => Err(stop),
     }
 }

@@ -6,7 +6,7 @@ ghost use Rattle.jq_meaning.specs.Runs.{answered, plain};
 ghost use Rattle.jq_meaning.specs.Steps.{guarded_fail};
 ghost use Rattle.jq_natives.specs.Answers.{Answer};
 ghost use Rattle.jq_single.specs.Single.{Ends};
-ghost use Rattle.jq_single.specs.private.Parts.{Answers, IsUntold};
+ghost use Rattle.jq_single.specs.private.Parts.{Answers};
 
 use jv_data::{Fail, NoMemory, Val};
 use std::alloc::AllocError;
@@ -63,15 +63,5 @@ pub(crate) fn refused(guarded: bool, error: Val) -> Stop
         Stop::Nothing
     } else {
         Stop::Raised(error)
-    }
-}
-
-/// That memory ran out, or else that nothing is claimed.
-pub(crate) fn untold(stop: Stop) -> Stop
-    ensures { IsUntold result }
-{
-    match stop {
-        Stop::NoMemory => Stop::NoMemory,
-        _ => Stop::Unknown,
     }
 }

@@ -1,24 +1,25 @@
-// Updates (`f |= g`): the paths of f are gathered once, and each part becomes the first output of g.
-ghost use Rattle.std.specs.Prelude.{◌≡◌, ◌++◌, ◌∷◌, [], IfErr, IfOk, IfSome, Ok, OnOk, map};
+// Updates (`f |= g`): the paths of f are gathered once, and each part becomes the first output of g, the only one that counts.
+ghost use Rattle.std.specs.Prelude.{◌≡◌, ◌++◌, ◌∷◌, [], IfOk, IfSome, Ok, OnOk, map};
 ghost use Rattle.jv_data.specs.Value.{Value};
 ghost use Rattle.jv_data.specs.View.{view};
 ghost use Rattle.jv_value.specs.GetPath.{getpath_of};
 ghost use Rattle.jq_natives.specs.declared.native.Native.TheVariants.{DelPaths, SetPath};
 ghost use Rattle.jq_ast.specs.Named.{name_of, named};
 ghost use Rattle.jq_tree.specs.Tree.{trees_of};
-ghost use Rattle.jq_tree.specs.Tree as form;
 ghost use Rattle.jq_meaning.specs.Builtins.{plain_native};
 ghost use Rattle.jq_single.specs.Single.{Changed, Keeps};
-ghost use Rattle.jq_single.specs.private.Parts.{ChangesTo, IsUntold};
+ghost use Rattle.jq_single.specs.private.Parts.{ChangesTo};
 ghost use Rattle.jq_single.specs.private.Updates.{ChangesParts, FindsPaths, TakesTurn, TakesTurns, listed};
+ghost use Rattle.jq_single.specs.private.FirstOutputs.{ChangesToFirst};
+ghost use Rattle.jq_tree.specs.Tree as form;
 
-use crate::calling::call_on;
+use crate::changing::call_on;
 use crate::contexts::Context;
 use crate::finding::has_modify;
 use crate::folding::single_of;
-use crate::paths::start_at;
+use crate::gathering::start_at;
 use crate::rests::Rest;
-use crate::stops::{Stop, untold};
+use crate::stops::Stop;
 use jq_ast::{Modify, Tree};
 use jq_meaning::updates::an_update_is_its_turns;
 use jq_natives::Native;
@@ -68,7 +69,9 @@ impl<'s> Context<'s> {
         ensures runs { ChangesParts self.now (named paths.now) (named update.now) (view value.old) (view value.new) result }
         ensures keeps { Keeps result (view value.old) (view value.new) }
     {
-        let found = self.paths_of(paths, value)?;
+        let Ok(found) = self.paths_of(paths, value) else {
+            return Err(Stop::Unknown);
+        };
         match single_of(found.as_slice()) {
             Some(path) if !self.kept => self.change_one(path, update, value),
             _ => self.change_copied(found.as_slice(), update, value),
@@ -78,17 +81,14 @@ impl<'s> Context<'s> {
     // The paths of a filter into a value.
     #[cycle(single)]
     fn paths_of(&self, tree: &'s Tree, value: &Val) -> Result<Vec<Val>, Stop>
-        ensures found { IfOk result (λ paths. FindsPaths self.now (named tree.now) (view value.now) (map view paths.items)) }
-        ensures err { IfErr result IsUntold }
+        ensures { IfOk result (λ paths. FindsPaths self.now (named tree.now) (view value.now) (map view paths.items)) }
     {
         let start = start_at(self.alloc, value)?;
         let end = Rest::End(MOST);
         let path = Rest::Path(&end);
         let mut paths = Vec::new(self.alloc);
-        match (&*self).gather(&*tree, &start, &path, &mut paths) {
-            Ok(()) => Ok(paths),
-            Err(stop) => Err(untold(stop)),
-        }
+        (&*self).gather(&*tree, &start, &path, &mut paths)?;
+        Ok(paths)
     }
 
     // The part at one path.
@@ -162,6 +162,52 @@ impl<'s> Context<'s> {
                 Err(Stop::Unknown) => Err(Stop::Unknown),
             },
             None => Err(Stop::Unknown),
+        }
+    }
+
+    // Replaces the value by the first output of a filter.
+    #[cycle(single)]
+    fn change_first(&self, tree: &'s Tree, value: &mut Val) -> Result<(), Stop>
+        ensures runs { ChangesToFirst self.now (named tree.now) (view value.old) (view value.new) result }
+        ensures keeps { Keeps result (view value.old) (view value.new) }
+    {
+        match tree {
+            Tree::Comma(left, right) => self.change_first_of_two(left, right, value),
+            _ => self.change(tree, value),
+        }
+    }
+
+    // `f, g`: the first output of `g` counts if `f` has none, so `f` changes a copy. Filters other than `f, g` are run at once only
+    // if they have at most one output.
+    #[cycle(single)]
+    #[inline(never)]
+    fn change_first_of_two(
+        &self,
+        left: &'s Tree,
+        right: &'s Tree,
+        value: &mut Val,
+    ) -> Result<(), Stop>
+        ensures runs { ChangesToFirst self.now (form.comma (named left.now) (named right.now)) (view value.old) (view value.new) result }
+        ensures keeps { Keeps result (view value.old) (view value.new) }
+    {
+        if self.fuel == 0 {
+            return Err(Stop::Unknown);
+        }
+        let inside = Context {
+            fuel: self.fuel - 1,
+            kept: true,
+            ..*self
+        };
+        let mut output = value.copy()?;
+        match inside.change_first(left, &mut output) {
+            Ok(()) => {
+                *value = output;
+                Ok(())
+            }
+            Err(Stop::Nothing) => inside.change_first(right, value),
+            Err(Stop::Raised(error)) => Err(Stop::Raised(error)),
+            Err(Stop::NoMemory) => Err(Stop::NoMemory),
+            Err(Stop::Unknown) => Err(Stop::Unknown),
         }
     }
 }

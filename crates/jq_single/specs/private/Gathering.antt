@@ -1,12 +1,12 @@
 -- What the outputs of a filter add to a list.
-use Rattle.std.specs.Prelude.{◌≡◌, ℕ, ℤ, pos, List, [], ◌∷◌, ◌++◌, map, reverse, Option, Some, None, Result, Ok, Err}
+use Rattle.std.specs.Prelude.{◌≡◌, ℕ, pos, List, [], ◌∷◌, ◌++◌, map, reverse, Some, None, Result, Ok, Err}
 use Rattle.jv_data.specs.Value.{Value, null, array, items_of, string}
 use Rattle.jv_data.specs.Text.{text_of}
 use Rattle.jv_data.specs.View.{view}
 use Rattle.jv_data.specs.declared.values.Val.{Val}
 use Rattle.jq_ast.specs.Leaves.{key_of}
 use Rattle.jq_ast.specs.Named.{named}
-use Rattle.jq_tree.specs.Tree.{Name, Tree, Trees, whole}
+use Rattle.jq_tree.specs.Tree.{Name, Tree, Trees, reduce, whole}
 use Rattle.jq_meaning.specs.machine.Operations.{path_item}
 use Rattle.jq_meaning.specs.Builtins.{Builtin, numbers_up_to}
 use Rattle.jq_meaning.specs.Continuations.{on_source, on_state, on_target}
@@ -17,10 +17,13 @@ use Rattle.jq_meaning.specs.Runs.{Item, plain, value_in, Done, Run, none, one, g
 use Rattle.jq_meaning.specs.Steps.{each_part}
 use Rattle.jq_state.specs.Items.{item_of}
 use Rattle.jq_state.specs.declared.items.Item as items
-use Rattle.jq_single.specs.Single.{Changed, Ends}
-use Rattle.jq_single.specs.private.Parts.{Answers, body_in, builtin_in, run}
+use Rattle.jq_single.specs.Single.{Changed, Comes, Ends}
+use Rattle.jq_single.specs.private.Parts.{ChangesTo, body_in, builtin_in, run}
 use Rattle.jq_single.specs.private.Scopes.{scope_env}
 use Rattle.jq_single.specs.declared.contexts.Context.{Context}
+use Rattle.jq_single.specs.declared.gathering.Numbers.{Numbers}
+use Rattle.jq_single.specs.declared.gathering.Supply.{Supply}
+use Rattle.jq_single.specs.declared.gathering.Supply.TheVariants as supply
 use Rattle.jq_single.specs.declared.rests.Rest.{Rest}
 use Rattle.jq_single.specs.declared.rests.Rest.TheVariants as rest
 use Rattle.jq_single.specs.declared.scopes.Scope.{Scope}
@@ -95,28 +98,25 @@ abbrev pub given_of : List items.Item → Run Item
 given_of xs = record { items = reverse (map item_of xs); ending = Done }
 
 -- the whole numbers from a first one on, if there is one
-abbrev pub numbers_from : Option ℤ → (end : ℤ) → Run Item
-numbers_from None end = none
-numbers_from (Some n) end = numbers_up_to n end (pos 1)
+abbrev pub numbers_from : Numbers → Run Item
+numbers_from ns = elim ns.next [ None ↦ none | Some n ↦ numbers_up_to n ns.end (pos 1) ]
+
+-- the items of a supply
+abbrev pub supplied : Supply → Run Item
+supplied (supply.Items xs) = given_of xs.items
+supplied (supply.Numbers ns) = numbers_from ns
 
 -- ---- folds
 
 -- All outputs of a tree on a value.
 abbrev pub GathersAll : {A : Type 0} → Context → Tree → Value → Result A Stop → (values : List Val) → Type 0
-GathersAll p t v (Ok done) xs = (inputs : Run Value) (level : ℕ) → gathered (run p inputs level t (plain v)) ≡ one (plain (array (items_of (map view xs))))
-GathersAll p t v (Err s) xs = Unit {0}
+GathersAll p t v a xs = (inputs : Run Value) (level : ℕ) → Comes (λ done. one (plain (array (items_of (map view xs))))) a (gathered (run p inputs level t (plain v)))
 
 -- A fold goes on with the next state, or the update stopped.
 abbrev pub GoesOn : {A : Type 0} → Result A Stop → (later : Run Item) → Run Item → Type 0
-GoesOn (Ok done) q r = r ≡ q
-GoesOn (Err s) q r = Ends s r
+GoesOn a q r = Comes (λ done. q) a r
 
--- The next state of an update takes the place of the state, whatever is done with it.
-abbrev pub Steps : {A : Type 0} → Context → Tree → (before later : Value) → Result A Stop → Type 0
-Steps p t v w result =
-    (inputs : Run Value) (level : ℕ) (go : Item → Run Item) → GoesOn result (go (plain w)) (next_state (plain v) (run p inputs level t (plain v)) go)
-
--- The same for a step with a value.
+-- The next state of an update, whose variable is bound to a value, takes the place of the state, whatever is done with it.
 abbrev pub Turns : {A : Type 0} → Context → Name → Tree → (single : Value) → (before later : Value) → Result A Stop → Type 0
 Turns p n t s v w result =
     (inputs : Run Value) (level : ℕ) (go : Item → Run Item) → GoesOn result (go (plain w)) (next_state (plain v) (turn p inputs level n t (plain s) (plain v)) go)
@@ -131,9 +131,10 @@ fold_run p inputs level t n u state v =
     let sources = bind (run p inputs level t (plain v)) (on_source (bindings_with (below p.depth) (whole n) level) (scope_env inputs p.scope.now)) in
     reduced (on_state (meaning p.depth u) level) sources.items sources.ending (plain state)
 
-abbrev pub FoldsFrom : Context → (source : Tree) → Name → (update : Tree) → (state v : Value) → Result Val Stop → Type 0
-FoldsFrom p t n u state v result = (inputs : Run Value) (level : ℕ) → Answers result (fold_run p inputs level t n u state v)
+-- Its result takes the place of the input.
+abbrev pub FoldsFrom : {A : Type 0} → Context → (source : Tree) → Name → (update : Tree) → (state before later : Value) → Result A Stop → Type 0
+FoldsFrom p t n u state v w result = (inputs : Run Value) (level : ℕ) → Changed result w (fold_run p inputs level t n u state v)
 
--- The same from the input, where the result takes its place.
-abbrev pub FoldsIn : {A : Type 0} → Context → (source : Tree) → Name → (update : Tree) → (before later : Value) → Result A Stop → Type 0
-FoldsIn p t n u v w result = (inputs : Run Value) (level : ℕ) → Changed result w (fold_run p inputs level t n u v v)
+-- The same from a start.
+abbrev pub FoldsAs : {A : Type 0} → Context → (source : Tree) → Name → (start update : Tree) → (before later : Value) → Result A Stop → Type 0
+FoldsAs p t n start u v w result = ChangesTo p (reduce t (whole n) start u) v w result

@@ -1,25 +1,28 @@
 -- The outputs of the parts of a filter that has at most one output.
-use Rattle.std.specs.Prelude.{◌≡◌, ℕ, Result, Ok, Err}
+use Rattle.std.specs.Prelude.{◌≡◌, ℕ, Bool, true, false, List, map, Result}
 use Rattle.jq_natives.specs.declared.native.Native.{Native}
 use Rattle.jv_data.specs.Value.{Value}
 use Rattle.jv_data.specs.View.{view}
 use Rattle.jv_data.specs.declared.values.Val.{Val}
-use Rattle.jq_tree.specs.Tree.{Tree, Trees}
+use Rattle.jq_ast.specs.Named.{named}
+use Rattle.jq_ast.specs.declared.tree.Tree as ast
+use Rattle.jq_tree.specs.Tree.{Tree, Trees, conjunction, disjunction, trees_of}
 use Rattle.jq_meaning.specs.Builtins.{Builtin, builtin_run, each_choice, plain_native}
 use Rattle.jq_meaning.specs.Env.{find_inputs}
 use Rattle.jq_meaning.specs.Meaning.{arguments_with, below, meaning}
 use Rattle.jq_meaning.specs.Runs.{Item, plain, Run, one, bind}
-use Rattle.jq_single.specs.Single.{Changed, Ends}
-use Rattle.jq_single.specs.private.Scopes.{scope_env}
+use Rattle.jq_operations.specs.Language.{meaning_of}
+use Rattle.jq_single.specs.Single.{Changed, Comes}
+use Rattle.jq_single.specs.private.Scopes.{body_env, scope_env}
+use Rattle.jq_single.specs.declared.finding.Found.{Found}
+use Rattle.jq_single.specs.declared.finding.Found.TheVariants as found
 use Rattle.jq_single.specs.declared.scopes.Scope.{Scope}
 use Rattle.jq_single.specs.declared.contexts.Context.{Context}
 use Rattle.jq_single.specs.declared.stops.Stop.{Stop}
-use Rattle.jq_single.specs.declared.stops.Stop.TheVariants as stop
 
 -- A run with one output, or without output.
 abbrev pub Answers : Result Val Stop → Run Item → Type 0
-Answers (Ok v) r = r ≡ one (plain (view v))
-Answers (Err s) r = Ends s r
+Answers a r = Comes (λ v. one (plain (view v))) a r
 
 -- The run of a tree in a context, for a label level.
 abbrev pub run : Context → Run Value → (level : ℕ) → Tree → Item → Run Item
@@ -37,9 +40,6 @@ ChangesTo p t v w result = (inputs : Run Value) (level : ℕ) → Changed result
 abbrev pub body_in : Scope → (depth : ℕ) → Run Value → (level : ℕ) → Tree → Item → Run Item
 body_in own depth inputs level t x = below depth t (scope_env inputs own) level x
 
-abbrev pub RunsBelow : Context → Scope → Tree → Value → Result Val Stop → Type 0
-RunsBelow p own t v result = (inputs : Run Value) (level : ℕ) → Answers result (body_in own p.depth inputs level t (plain v))
-
 abbrev pub ChangesBelow : {A : Type 0} → Context → Scope → Tree → (before later : Value) → Result A Stop → Type 0
 ChangesBelow p own t v w result = (inputs : Run Value) (level : ℕ) → Changed result w (body_in own p.depth inputs level t (plain v))
 
@@ -47,12 +47,16 @@ ChangesBelow p own t v w result = (inputs : Run Value) (level : ℕ) → Changed
 abbrev pub Follows : Context → Tree → Value → (Item → Run Item) → Result Val Stop → Type 0
 Follows p t v next result = (inputs : Run Value) (level : ℕ) → Answers result (bind (run p inputs level t (plain v)) next)
 
--- Nothing is claimed of a run.
-abbrev pub IsUntold : Stop → Type 0
-IsUntold stop.Nothing = ⊥
-IsUntold (stop.Raised v) = ⊥
-IsUntold stop.NoMemory = Unit {0}
-IsUntold stop.Unknown = Unit {0}
+-- The runs of two trees on a value, whatever is done with each two outputs.
+abbrev pub GetsTwo : Context → (first second : Tree) → Value → Result (Val × Val) Stop → Type 0
+GetsTwo p t u v result =
+    (inputs : Run Value) (level : ℕ) (g : Item → Item → Run Item)
+    → Comes (λ two. g (plain (view two.0)) (plain (view two.1))) result (bind (run p inputs level t (plain v)) (λ x. bind (run p inputs level u (plain v)) (g x)))
+
+-- `or` if true decides, and else `and`.
+abbrev pub decided : (by : Bool) → (left right : Tree) → Tree
+decided true t u = disjunction t u
+decided false t u = conjunction t u
 
 -- ---- names of the language
 
@@ -64,12 +68,17 @@ builtin_in p inputs level b ts x =
 abbrev pub native_in : Context → Run Value → (level : ℕ) → Native → Trees → Value → Run Item
 native_in p inputs level f ts v = each_choice (arguments_with (below p.depth) ts (scope_env inputs p.scope.now) level (plain v)) (plain_native f v)
 
-abbrev pub RunsBuiltin : Context → Builtin → Trees → Value → Result Val Stop → Type 0
-RunsBuiltin p b ts v result = (inputs : Run Value) (level : ℕ) → Answers result (builtin_in p inputs level b ts (plain v))
-
 -- The answer replaces the value.
 abbrev pub ChangesByBuiltin : {A : Type 0} → Context → Builtin → Trees → (before later : Value) → Result A Stop → Type 0
 ChangesByBuiltin p b ts v w result = (inputs : Run Value) (level : ℕ) → Changed result w (builtin_in p inputs level b ts (plain v))
 
 abbrev pub ChangesByNative : {A : Type 0} → Context → Native → Trees → (before later : Value) → Result A Stop → Type 0
 ChangesByNative p f ts v w result = (inputs : Run Value) (level : ℕ) → Changed result w (native_in p inputs level f ts v)
+
+-- What a call finds says what its tree runs.
+abbrev pub Calls : Context → Tree → List ast.Tree → Found → Type 0
+Calls p t ts (found.Function f own) =
+    (inputs : Run Value) (level : ℕ) (x : Item) → run p inputs level t x ≡ below p.depth (named f.now.body) (body_env f.now ts (scope_env inputs p.scope.now) (scope_env inputs own)) level x
+Calls p t ts (found.Closure body own) = (inputs : Run Value) (level : ℕ) (x : Item) → run p inputs level t x ≡ body_in own p.depth inputs level (named body.now) x
+Calls p t ts (found.Builtin b) = (inputs : Run Value) (level : ℕ) (x : Item) → run p inputs level t x ≡ builtin_in p inputs level (meaning_of b) (trees_of (map named ts)) x
+Calls p t ts found.Nothing = Unit {0}

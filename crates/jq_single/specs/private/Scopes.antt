@@ -12,6 +12,7 @@ use Rattle.jq_meaning.specs.Env as env
 use Rattle.jq_meaning.specs.Runs.{Run}
 use Rattle.jq_state.specs.Environments.{envs_of}
 use Rattle.jq_state.specs.Nodes.{env_at}
+use Rattle.jq_single.specs.declared.scopes.Outside.{Outside}
 use Rattle.jq_single.specs.declared.scopes.Scope.{Scope}
 use Rattle.jq_single.specs.declared.scopes.Scope.TheVariants as scope
 
@@ -24,3 +25,10 @@ scope_env inputs (scope.Run o) = env_at (envs_of inputs o.nodes.now) o.env
 scope_env inputs (scope.Value' p outer name v) = bound (env.value_of (text_of name.now) (view v.now)) (scope_env inputs outer)
 scope_env inputs (scope.Function' p outer f) = bound (env.function (text_of f.now.name) (map text_of f.now.parameters.items) (named f.now.body)) (scope_env inputs outer)
 scope_env inputs (scope.Call' p own f ts q caller) = body_env f.now ts.now.items (scope_env inputs caller) (scope_env inputs own)
+
+-- The environment of the run in which a scope's bindings are.
+abbrev pub outside_in : Scope → Outside
+outside_in (scope.Run o) = o
+outside_in (scope.Value' p outer name v) = outside_in outer
+outside_in (scope.Function' p outer f) = outside_in outer
+outside_in (scope.Call' p own f ts q caller) = outside_in own

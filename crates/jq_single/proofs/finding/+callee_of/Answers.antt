@@ -4,7 +4,7 @@ use Rattle.jq_ast.specs.Named.{name_of, named}
 use Rattle.jq_tree.specs.Tree.{trees_of}
 use Rattle.jq_meaning.specs.Env.{Env, Callee, find_callee, with_arguments}
 use Rattle.jq_single.specs.private.Scopes.{scope_env}
-use Rattle.jq_single.proofs.Passed.{callee_past}
+use Rattle.jq_single.proofs.Calls.{callee_past}
 use Rattle.jq_single.proofs.finding.+callee_of.Goals as goal
 
 pub returns-then-count-gt0 : goal.returns-then-count-gt0

@@ -1,5 +1,5 @@
 use Rattle.std.proofs.Common.{◌≡◌, length, arith}
-use Rattle.jq_single.proofs.Folded.{one_value}
+use Rattle.jq_single.proofs.Calls.{one_value}
 use Rattle.jq_single.proofs.folding.single_of.Goals as goal
 
 pub returns-in-len1 : goal.returns-in-len1

@@ -1,4 +1,4 @@
-use Rattle.jq_single.proofs.Folded.{taken}
+use Rattle.jq_single.proofs.Binding.{taken}
 use Rattle.jq_single.proofs.folding.take.Goals as goal
 
 pub returns : goal.returns

@@ -1,78 +1,72 @@
-use Rattle.std.proofs.Common.{rules, to_z, of_z, w64, Ok, Err, [], ◌∷◌, List, ℕ, suc, codes, ◌≡◌, ◌∙◌, ◌-◌, arith, length, map, true, false, refl, sym, ap, subst}
-use Rattle.std.proofs.lemmas.Int.{to_z-of_z}
+use Rattle.std.proofs.Common.{rules, Ok, Err, [], ◌∷◌, List, ℕ, suc, ◌≡◌, ◌∙◌, ◌-◌, arith, length, map, true, refl, sym, ap, subst}
 use Rattle.std.proofs.Math.Logic.{∥∥₁_elim}
 use Rattle.std.specs.Str.{chars}
+use Rattle.jv_arith.specs.Arith.{neg_of}
 use Rattle.jv_data.specs.Held.{members_in}
 use Rattle.jv_data.proofs.shared.Levels.{view-Bool, view-List}
 use Rattle.jv_data.specs.Shared.{text_in}
 use Rattle.jv_data.specs.Value.{Value, Members, array, items_of, string}
 use Rattle.jv_data.specs.Text.{text_of}
-use Rattle.jv_value.specs.Index.{slice_key}
 use Rattle.jv_data.specs.View.{view}
 use Rattle.jv_data.specs.declared.values.Val.{Val}
 use Rattle.jq_ast.specs.Leaves.{key_of, operator_of}
 use Rattle.jq_ast.specs.Named.{name_of, named, named_as_pattern, named_entry}
-use Rattle.jq_ast.proofs.shared.Forms.{named-Call, named-PreludeCall, named-Update, named-Object, named-Text, named-Whole}
+use Rattle.jq_ast.proofs.shared.Forms.{named-Call, named-Field, named-PreludeCall, named-Update, named-Object, named-Text, named-Whole}
 use Rattle.jq_tree.specs.Tree as form
 use Rattle.jq_tree.specs.Tree.{Entry, Tree, bind_as, more_entries, object, reduce, text, trees_of, whole}
 use Rattle.jq_operations.specs.Language.{meaning_of}
 use Rattle.jq_meaning.specs.machine.Operations.{path_item}
-use Rattle.jq_meaning.specs.Builtins.{builtin_named, plain_native, range_of}
+use Rattle.jq_meaning.specs.Builtins.{range_of}
 use Rattle.jq_meaning.specs.Builtins as meaning
-use Rattle.jq_meaning.specs.Env.{bound, find_callee, find_in_prelude, find_value, no_callee, value_of}
+use Rattle.jq_meaning.specs.Env.{bound, value_of}
 use Rattle.jq_meaning.specs.Steps.{each_part}
-use Rattle.jv_arith.specs.Arith.{add_of}
-use Rattle.jq_natives.specs.PathNatives.{getpath_native_of}
 use Rattle.jq_meaning.specs.Folds.{next_state, reduced}
 use Rattle.jq_meaning.specs.Meaning.{arguments_with, below, bindings_with, meaning, pieces_with}
-use Rattle.jq_meaning.specs.Continuations.{on_source, on_state, on_target, on_key, on_start, on_end, on_entry, on_entry_key, on_back, on_inserted, format_of, on_left, on_right, negated, truth, on_conjunct, on_disjunct, on_test, on_error}
+use Rattle.jq_meaning.specs.Continuations.{on_source, on_state, on_target, on_key, on_start, on_end, on_entry, on_entry_key, on_back, on_inserted, format_of, on_left, on_right, negated, truth, on_test, on_error}
 use Rattle.jq_meaning.specs.Runs.{Done, Run, Item, plain, located, as_value, value_in, none, one, fail, alternative, then_run, bind, catch, gathered}
 use Rattle.jq_single.specs.private.Scopes.{scope_env}
 use Rattle.jq_operations.specs.Outputs.{Inserts, outputs_of}
 use Rattle.jq_operations.specs.Pieces.{named_pieces}
 use Rattle.jq_state.specs.Steps.{named_entries}
 use Rattle.jq_meaning.proofs.shared.machine.RunLaws.{bind-bind, bind-then_run}
-use Rattle.jq_single.specs.private.Gathering.{Gathers, folded, given_of, made, numbers_from, rest_run, state_in, turn}
+use Rattle.jq_single.specs.private.Gathering.{Gathers, GathersOf, folded, made, rest_run, supplied, state_in, turn}
 use Rattle.jq_state.specs.Items.{item_of}
 use Rattle.jq_state.proofs.shared.Items.{absent, value_of_item}
-use Rattle.jq_single.specs.private.Making.{entries_in}
+use Rattle.jq_single.specs.private.Making.{Adds, entries_in}
 use Rattle.jq_single.specs.private.Updates.{listed, part_run, path_run}
 use Rattle.jq_meaning.specs.laws.Updating.{turn_of, turns}
-use Rattle.jq_single.specs.private.FirstOutputs.{first_alone}
-use Rattle.jq_single.specs.private.Parts.{Answers, builtin_in, run}
+use Rattle.jq_single.specs.private.Parts.{Answers, Calls, ChangesTo, builtin_in, run}
 use Rattle.jq_single.specs.Single.{Changed, Ends}
-use Rattle.jq_single.proofs.Binding.{bind-known, ends-bind, ends-after, answers-bind, changed-bind, changed_holds, changed_fails, changed-stops, goes-changed, keeps-stops, leaves_same, stops, untold, and_goes, and_stops, or_goes, or_stops, truth_of, test_holds, test_fails, caught, with_variable, text-bind, text-stops}
+use Rattle.jq_single.specs.private.FirstOutputs.{first_alone}
+use Rattle.jq_single.proofs.Binding.{bind-known, comes-bind, ends-bind, fails, ends-after, keeps-stops, leaves_same, stops, alternative_known, decided_by, decided_else, decided_stops, truth_of, caught, with_variable, gathers-none, gathers-then, gathers-fail, gathers_all, gives_first, stops_first, stops-then, gathered_list, bound_rest, picks_holds, picks_fails, fold_value, turned, fold_ends, single_fold}
 use Rattle.jq_single.specs.declared.rests.Rest.{Rest}
 use Rattle.jq_single.specs.declared.rests.Rest.TheVariants as rest
-use Rattle.jq_single.proofs.Gathered.{gathers-none, gathers-then, gathers-fail, gathers_all, gives_first, stops_first, stops-then, gathered_list, ends_gathered, bound_rest, picks_holds, picks_fails}
-use Rattle.jq_single.proofs.Folded.{fold_value, turned, fold_ends, single_fold}
-use Rattle.jq_single.proofs.FirstOutputs.{answers-first, changed-first, first-then}
-use Rattle.jq_single.proofs.Sets.{changed-prop}
-use Rattle.jq_single.proofs.UpdateTurns.{getpath_keys, known_paths, listed_more, modify_tree, turn_lists, turn_raises, turn_sets, two_calls_deep}
-use Rattle.jq_single.proofs.Located.{path_given, path_of_builtin, paths-rest}
-use Rattle.jq_single.proofs.Bodies.{body_runs, builtin_runs, closure_runs, function_runs, named-Identity, prelude_runs}
-use Rattle.jq_single.proofs.GivenArguments.{native_plain, two_chosen}
+use Rattle.jq_single.proofs.UpdateTurns.{changed-first, first-then, changed-prop, getpath_keys, known_paths, listed_more, modify_tree, turn_lists, turn_raises, turn_sets, two_calls_deep}
+use Rattle.jq_single.proofs.Calls.{path_given, paths-rest, body_runs, named-Identity, text_is, native_plain, two_chosen}
 use Rattle.jq_single.proofs.contexts.Context.+single.Goals as goal
 
 -- ---- forms
 
-pub get_form-returns-in-Text : goal.get_form-returns-in-Text
-get_form-returns-in-Text t c = λ inputs level.
+pub get_made-returns-in-Text : goal.get_made-returns-in-Text
+get_made-returns-in-Text t c = λ inputs level.
     let f = name_of c.in-Text.format in
     let form : named c.args.tree.now ≡ text f (named_pieces c.as_slice.result.now c.in-Text.last) =
     ap named c.in-Text.is ∙ named-Text c.in-Text.format c.in-Text.pieces c.in-Text.last ∙ ap (λ ps. text f (named_pieces ps c.in-Text.last)) (sym c.as_slice.ensures.value) in
     subst (λ (u : Tree). Answers c.text.result (run c.args.self.now inputs level u (plain (view c.args.value.now)))) (sym form) (c.text.ensures inputs level)
 
-pub get_form-returns-in-Object : goal.get_form-returns-in-Object
-get_form-returns-in-Object t c = λ inputs level.
+pub get_made-returns-in-Field : goal.get_made-returns-in-Field
+get_made-returns-in-Field t c = λ inputs level.
+    let go : Tree → Run Item = λ u. run c.args.self.now inputs level u (plain (view c.args.value.now)) in
+    let target : c.in-Field.target.value ≡ c.deref.result.now = search rules in
+    let key : view c.value.result.now ≡ string (key_of c.in-Field.key) = ap view c.value.ensures.same ∙ text_is (view c.in-Field.key.value) c.in-Field.key.text in
+    subst (λ (u : Tree). Answers c.field.result (go u)) (sym (ap named c.in-Field.is ∙ named-Field c.in-Field.target c.in-Field.key c.in-Field.guarded ∙ ap (λ z. form.field (named z) (key_of c.in-Field.key) c.in-Field.guarded) target))
+    (subst (λ (k : Value). Answers c.field.result (bind (go (named c.deref.result.now)) (on_target c.in-Field.guarded k))) key (c.field.ensures inputs level))
+
+pub get_made-returns-in-Object : goal.get_made-returns-in-Object
+get_made-returns-in-Object t c = λ inputs level.
     let form : named c.args.tree.now ≡ object (named_entries c.as_slice-in-Object.result.now) =
     ap named c.in-Object.is ∙ named-Object c.in-Object.entries ∙ ap (λ es. object (named_entries es)) (sym c.as_slice-in-Object.ensures.value) in
     subst (λ (u : Tree). Answers c.object.result (run c.args.self.now inputs level u (plain (view c.args.value.now)))) (sym form) (c.object.ensures inputs level)
-
-pub get_form-returns-in-Call : goal.get_form-returns-in-Call
-get_form-returns-in-Call t c = λ inputs level.
-    subst (λ (u : Tree). Answers c.get_call.result (run c.args.self.now inputs level u (plain (view c.args.value.now))))
-    (sym (ap named c.in-Call.is ∙ named-Call c.in-Call.name c.in-Call.arguments)) (c.get_call.ensures inputs level)
 
 pub get_changed-returns-in-Ok : goal.get_changed-returns-in-Ok
 get_changed-returns-in-Ok t c = λ inputs level.
@@ -84,217 +78,107 @@ get_changed-returns-in-Err t c = λ inputs level.
 
 -- ---- parts
 
-pub field-returns-in_err-found : goal.field-returns-in_err-found
-field-returns-in_err-found t c = λ inputs level.
-    let v = plain (view c.args.value.now) in
+pub get_two-returns : goal.get_two-returns
+get_two-returns t c = λ inputs level g.
     let go : Tree → Item → Run Item = run c.args.self.now inputs level in
-    stops c.from_residual.result c.in_err-found.field-0.0 _ c.from_residual.ensures.1 (ends-bind c.in_err-found.field-0.0 (go (named c.args.target.now) v) (on_target c.args.guarded (string (key_of c.args.key.now))) (c.in_err-found.ensures inputs level))
+    let v = plain (view c.args.value.now) in
+    bind-known (go (named c.args.first.now) v) (plain (view c.in_ok-one.one)) (λ x. bind (go (named c.args.second.now) v) (g x)) (c.in_ok-one.ensures inputs level)
+    ∙ bind-known (go (named c.args.second.now) v) (plain (view c.in_ok-other.other)) (g (plain (view c.in_ok-one.one))) (c.in_ok-other.ensures inputs level)
+
+pub get_two-returns-in_err-one : goal.get_two-returns-in_err-one
+get_two-returns-in_err-one t c = λ inputs level g. fails _ c.from_residual.result c.in_err-one.field-0.0 c.args.self.now (named c.args.first.now) (view c.args.value.now) (λ x. bind (run c.args.self.now inputs level (named c.args.second.now) (plain (view c.args.value.now))) (g x)) inputs level c.from_residual.ensures.1 c.in_err-one.ensures
+
+pub get_two-returns-in_err-other : goal.get_two-returns-in_err-other
+get_two-returns-in_err-other t c = λ inputs level g.
+    let go : Tree → Item → Run Item = run c.args.self.now inputs level in
+    let v = plain (view c.args.value.now) in
+    let s = c.in_err-other.field-0.0 in
+    stops _ c.from_residual-in_err-other.result s _ c.from_residual-in_err-other.ensures.1
+    (ends-after s (go (named c.args.first.now) v) (plain (view c.in_ok-one.one)) (λ x. bind (go (named c.args.second.now) v) (g x)) (c.in_ok-one.ensures inputs level)
+    (ends-bind s (go (named c.args.second.now) v) (g (plain (view c.in_ok-one.one))) (c.in_err-other.ensures inputs level)))
+
+pub field-returns-in_err-found : goal.field-returns-in_err-found
+field-returns-in_err-found t c = λ inputs level. fails _ c.from_residual.result c.in_err-found.field-0.0 c.args.self.now (named c.args.target.now) (view c.args.value.now) (on_target c.args.guarded (view c.args.key.now)) inputs level c.from_residual.ensures.1 c.in_err-found.ensures
 
 pub index-returns : goal.index-returns
 unfolding on_key
 index-returns t c = λ inputs level.
     let v = plain (view c.args.value.now) in
     let go : Tree → Item → Run Item = run c.args.self.now inputs level in
-    answers-bind c.part_at.result (go (named c.args.key.now) v) (plain (view c.in_ok-at.at)) (on_key c.args.guarded (go (named c.args.target.now) v)) (c.in_ok-at.ensures inputs level)
-    (answers-bind c.part_at.result (go (named c.args.target.now) v) (plain (view c.in_ok-found.found)) (on_target c.args.guarded (view c.in_ok-at.at)) (c.in_ok-found.ensures inputs level) c.part_at.ensures)
+    comes-bind _ c.field.result (go (named c.args.key.now) v) (plain (view c.in_ok-at.at)) (on_key c.args.guarded (go (named c.args.target.now) v)) (c.in_ok-at.ensures inputs level) (c.field.ensures inputs level)
 
 pub index-returns-in_err-at : goal.index-returns-in_err-at
-index-returns-in_err-at t c = λ inputs level.
-    let v = plain (view c.args.value.now) in
-    let go : Tree → Item → Run Item = run c.args.self.now inputs level in
-    stops c.from_residual.result c.in_err-at.field-0.0 _ c.from_residual.ensures.1 (ends-bind c.in_err-at.field-0.0 (go (named c.args.key.now) v) (on_key c.args.guarded (go (named c.args.target.now) v)) (c.in_err-at.ensures inputs level))
-
-pub index-returns-in_err-found : goal.index-returns-in_err-found
-unfolding on_key
-index-returns-in_err-found t c = λ inputs level.
-    let v = plain (view c.args.value.now) in
-    let go : Tree → Item → Run Item = run c.args.self.now inputs level in
-    let s = c.in_err-found.field-0.0 in
-    stops c.from_residual-in_err-found.result s _ c.from_residual-in_err-found.ensures.1
-    (ends-after s (go (named c.args.key.now) v) (plain (view c.in_ok-at.at)) (on_key c.args.guarded (go (named c.args.target.now) v)) (c.in_ok-at.ensures inputs level)
-    (ends-bind s (go (named c.args.target.now) v) (on_target c.args.guarded (view c.in_ok-at.at)) (c.in_err-found.ensures inputs level)))
+index-returns-in_err-at t c = λ inputs level. fails _ c.from_residual.result c.in_err-at.field-0.0 c.args.self.now (named c.args.key.now) (view c.args.value.now) (on_key c.args.guarded (run c.args.self.now inputs level (named c.args.target.now) (plain (view c.args.value.now)))) inputs level c.from_residual.ensures.1 c.in_err-at.ensures
 
 pub slice-returns : goal.slice-returns
 unfolding on_start on_end
 slice-returns t c = λ inputs level.
-    let v = plain (view c.args.value.now) in
-    let go : Tree → Run Item = λ u. run c.args.self.now inputs level u v in
-    let ends = go (named c.args.to.now) in
-    let targets = go (named c.args.target.now) in
-    answers-bind c.part_at.result (go (named c.args.from.now)) (plain (view c.in_ok-start.start)) (on_start c.args.guarded ends targets) (c.in_ok-start.ensures inputs level)
-    (answers-bind c.part_at.result ends (plain (view c.in_ok-end.end)) (on_end c.args.guarded targets (view c.in_ok-start.start)) (c.in_ok-end.ensures inputs level)
-    (subst (λ (k : Value). Answers c.part_at.result (bind targets (on_target c.args.guarded k))) c.in_ok-bounds.ensures
-    (answers-bind c.part_at.result targets (plain (view c.in_ok-found.found)) (on_target c.args.guarded (view c.in_ok-bounds.bounds)) (c.in_ok-found.ensures inputs level) c.part_at.ensures)))
+    let targets = run c.args.self.now inputs level (named c.args.target.now) (plain (view c.args.value.now)) in
+    subst (Answers c.field.result) (sym (c.in_ok-start.ensures inputs level (λ x. on_end c.args.guarded targets (value_in x))))
+    (subst (λ (k : Value). Answers c.field.result (bind targets (on_target c.args.guarded k))) c.in_ok-bounds.ensures (c.field.ensures inputs level))
 
 pub slice-returns-in_err-start : goal.slice-returns-in_err-start
-slice-returns-in_err-start t c = λ inputs level.
-    let v = plain (view c.args.value.now) in
-    let go : Tree → Run Item = λ u. run c.args.self.now inputs level u v in
-    let ends = go (named c.args.to.now) in
-    let targets = go (named c.args.target.now) in
-    stops c.from_residual.result c.in_err-start.field-0.0 _ c.from_residual.ensures.1
-    (ends-bind c.in_err-start.field-0.0 (go (named c.args.from.now)) (on_start c.args.guarded ends targets) (c.in_err-start.ensures inputs level))
-
-pub slice-returns-in_err-end : goal.slice-returns-in_err-end
 unfolding on_start
-slice-returns-in_err-end t c = λ inputs level.
-    let v = plain (view c.args.value.now) in
-    let go : Tree → Run Item = λ u. run c.args.self.now inputs level u v in
-    let ends = go (named c.args.to.now) in
-    let targets = go (named c.args.target.now) in
-    let s = c.in_err-end.field-0.0 in
-    stops c.from_residual-in_err-end.result s _ c.from_residual-in_err-end.ensures.1
-    (ends-after s (go (named c.args.from.now)) (plain (view c.in_ok-start.start)) (on_start c.args.guarded ends targets) (c.in_ok-start.ensures inputs level)
-    (ends-bind s ends (on_end c.args.guarded targets (view c.in_ok-start.start)) (c.in_err-end.ensures inputs level)))
-
-pub slice-returns-in_err-found : goal.slice-returns-in_err-found
-unfolding on_start on_end
-slice-returns-in_err-found t c = λ inputs level.
-    let v = plain (view c.args.value.now) in
-    let go : Tree → Run Item = λ u. run c.args.self.now inputs level u v in
-    let ends = go (named c.args.to.now) in
-    let targets = go (named c.args.target.now) in
-    let s = c.in_err-found.field-0.0 in
-    stops c.from_residual-in_err-found.result s _ c.from_residual-in_err-found.ensures.1
-    (ends-after s (go (named c.args.from.now)) (plain (view c.in_ok-start.start)) (on_start c.args.guarded ends targets) (c.in_ok-start.ensures inputs level)
-    (ends-after s ends (plain (view c.in_ok-end.end)) (on_end c.args.guarded targets (view c.in_ok-start.start)) (c.in_ok-end.ensures inputs level)
-    (ends-bind s targets (on_target c.args.guarded (slice_key (view c.in_ok-start.start) (view c.in_ok-end.end))) (c.in_err-found.ensures inputs level))))
+slice-returns-in_err-start t c = λ inputs level.
+    let targets = run c.args.self.now inputs level (named c.args.target.now) (plain (view c.args.value.now)) in
+    stops _ c.from_residual.result c.in_err-start.field-0.0 _ c.from_residual.ensures.1 (c.in_err-start.ensures inputs level (λ x. on_end c.args.guarded targets (value_in x)))
 
 -- ---- values of parts
 
 pub pipe-returns-in_err-between : goal.pipe-returns-in_err-between
-pipe-returns-in_err-between t c = λ inputs level.
-    let v = plain (view c.args.value.now) in
-    let go : Tree → Item → Run Item = run c.args.self.now inputs level in
-    stops c.from_residual.result c.in_err-between.field-0.0 _ c.from_residual.ensures.1 (ends-bind c.in_err-between.field-0.0 (go (named c.args.first.now) v) (go (named c.args.second.now)) (c.in_err-between.ensures inputs level))
+pipe-returns-in_err-between t c = λ inputs level. fails _ c.from_residual.result c.in_err-between.field-0.0 c.args.self.now (named c.args.first.now) (view c.args.value.now) (run c.args.self.now inputs level (named c.args.second.now)) inputs level c.from_residual.ensures.1 c.in_err-between.ensures
 
-pub binary-returns : goal.binary-returns
-unfolding on_right
-binary-returns t c = λ inputs level.
-    let v = plain (view c.args.value.now) in
-    let go : Tree → Item → Run Item = run c.args.self.now inputs level in
-    let op = operator_of c.args.operator in
-    answers-bind c.operate.result (go (named c.args.right.now) v) (plain (view c.in_ok-second.second)) (on_right op (go (named c.args.left.now) v)) (c.in_ok-second.ensures inputs level)
-    (answers-bind c.operate.result (go (named c.args.left.now) v) (plain (view c.in_ok-first.first)) (on_left op (view c.in_ok-second.second)) (c.in_ok-first.ensures inputs level) c.operate.ensures)
-
-pub binary-returns-in_err-second : goal.binary-returns-in_err-second
-binary-returns-in_err-second t c = λ inputs level.
-    let v = plain (view c.args.value.now) in
-    let go : Tree → Item → Run Item = run c.args.self.now inputs level in
-    stops c.from_residual.result c.in_err-second.field-0.0 _ c.from_residual.ensures.1 (ends-bind c.in_err-second.field-0.0 (go (named c.args.right.now) v) (on_right (operator_of c.args.operator) (go (named c.args.left.now) v)) (c.in_err-second.ensures inputs level))
-
-pub binary-returns-in_err-first : goal.binary-returns-in_err-first
-unfolding on_right
-binary-returns-in_err-first t c = λ inputs level.
-    let v = plain (view c.args.value.now) in
-    let go : Tree → Item → Run Item = run c.args.self.now inputs level in
-    let op = operator_of c.args.operator in
-    let s = c.in_err-first.field-0.0 in
-    stops c.from_residual-in_err-first.result s _ c.from_residual-in_err-first.ensures.1
-    (ends-after s (go (named c.args.right.now) v) (plain (view c.in_ok-second.second)) (on_right op (go (named c.args.left.now) v)) (c.in_ok-second.ensures inputs level)
-    (ends-bind s (go (named c.args.left.now) v) (on_left op (view c.in_ok-second.second)) (c.in_err-first.ensures inputs level)))
+pub negation-returns : goal.negation-returns
+unfolding negated
+negation-returns t c = λ inputs level.
+    let w = view c.in_ok-found.found in
+    comes-bind _ c.answer.result (run c.args.self.now inputs level (named c.args.operand.now) (plain (view c.args.value.now))) (plain w) negated (c.in_ok-found.ensures inputs level) (c.answer.ensures (neg_of w) c.neg.ensures)
 
 pub negation-returns-in_err-found : goal.negation-returns-in_err-found
-negation-returns-in_err-found t c = λ inputs level.
-    let v = plain (view c.args.value.now) in
-    let go : Tree → Item → Run Item = run c.args.self.now inputs level in
-    stops c.from_residual.result c.in_err-found.field-0.0 _ c.from_residual.ensures.1 (ends-bind c.in_err-found.field-0.0 (go (named c.args.operand.now) v) (negated) (c.in_err-found.ensures inputs level))
+negation-returns-in_err-found t c = λ inputs level. fails _ c.from_residual.result c.in_err-found.field-0.0 c.args.self.now (named c.args.operand.now) (view c.args.value.now) negated inputs level c.from_residual.ensures.1 c.in_err-found.ensures
 
 -- ---- conditions
 
-pub get_truth-returns : goal.get_truth-returns
-get_truth-returns t c = λ inputs level.
-    truth_of (run c.args.self.now inputs level (named c.args.tree.now) (plain (view c.args.value.now))) (view c.in_ok-output.output) c.truth.result
-    (c.in_ok-output.ensures inputs level) c.truth.ensures
-    ∙ ap (λ (w : Value). one (plain w)) (sym (view-Bool c.truth.result))
+pub decided-returns-then-truth-by : goal.decided-returns-then-truth-by
+decided-returns-then-truth-by t c = λ inputs level.
+    decided_by c.args.self.now inputs level (named c.args.left.now) (named c.args.right.now) (view c.args.value.now) c.args.by c.truth.result (view c.in_ok-first.first) (c.in_ok-first.ensures inputs level) (sym c.truth.ensures) c.if-truth-by.true
+    ∙ ap (λ (w : Value). one (plain w)) (sym (view-Bool c.args.by))
 
-pub get_truth-returns-in_err-output : goal.get_truth-returns-in_err-output
-get_truth-returns-in_err-output t c = λ inputs level.
-    let v = plain (view c.args.value.now) in
-    let go : Tree → Item → Run Item = run c.args.self.now inputs level in
-    stops c.from_residual.result c.in_err-output.field-0.0 _ c.from_residual.ensures.1 (ends-bind c.in_err-output.field-0.0 (go (named c.args.tree.now) v) (truth) (c.in_err-output.ensures inputs level))
+pub decided-returns : goal.decided-returns
+decided-returns t c = λ inputs level.
+    decided_else c.args.self.now inputs level (named c.args.left.now) (named c.args.right.now) (view c.args.value.now) c.args.by c.truth.result (view c.in_ok-first.first) (c.in_ok-first.ensures inputs level) (sym c.truth.ensures) c.if-truth-by.false
+    ∙ truth_of (run c.args.self.now inputs level (named c.args.right.now) (plain (view c.args.value.now))) (view c.in_ok-second.second) c.truth-2.result (c.in_ok-second.ensures inputs level) c.truth-2.ensures ∙ ap (λ (w : Value). one (plain w)) (sym (view-Bool c.truth-2.result))
 
-pub and-returns-then-truth : goal.and-returns-then-truth
-and-returns-then-truth t c = λ inputs level.
-    let v = plain (view c.args.value.now) in
-    let go : Tree → Item → Run Item = run c.args.self.now inputs level in
-    and_goes c.get_truth.result (go (named c.args.left.now) v) (view c.in_ok-first.first) (go (named c.args.right.now)) v
-    (c.in_ok-first.ensures inputs level) (sym c.truth.ensures ∙ c.if-truth.true) (c.get_truth.ensures inputs level)
+pub decided-returns-in_err-first : goal.decided-returns-in_err-first
+decided-returns-in_err-first t c = λ inputs level.
+    let s = c.in_err-first.field-0.0 in
+    stops _ c.from_residual.result s _ c.from_residual.ensures.1
+    (decided_stops c.args.self.now inputs level (named c.args.left.now) (named c.args.right.now) (view c.args.value.now) c.args.by s (c.in_err-first.ensures inputs level))
 
-pub and-returns : goal.and-returns
-and-returns t c = λ inputs level.
-    let v = plain (view c.args.value.now) in
-    let go : Tree → Item → Run Item = run c.args.self.now inputs level in
-    and_stops (go (named c.args.left.now) v) (view c.in_ok-first.first) (go (named c.args.right.now)) v
-    (c.in_ok-first.ensures inputs level) (sym c.truth.ensures ∙ c.if-truth.false)
-    ∙ ap (λ (w : Value). one (plain w)) (sym (view-Bool false))
-
-pub and-returns-in_err-first : goal.and-returns-in_err-first
-and-returns-in_err-first t c = λ inputs level.
-    let v = plain (view c.args.value.now) in
-    let go : Tree → Item → Run Item = run c.args.self.now inputs level in
-    stops c.from_residual.result c.in_err-first.field-0.0 _ c.from_residual.ensures.1 (ends-bind c.in_err-first.field-0.0 (go (named c.args.left.now) v) (on_conjunct (go (named c.args.right.now)) v) (c.in_err-first.ensures inputs level))
-
-pub or-returns : goal.or-returns
-or-returns t c = λ inputs level.
-    let v = plain (view c.args.value.now) in
-    let go : Tree → Item → Run Item = run c.args.self.now inputs level in
-    or_goes c.get_truth.result (go (named c.args.left.now) v) (view c.in_ok-first.first) (go (named c.args.right.now)) v
-    (c.in_ok-first.ensures inputs level) (sym c.truth.ensures ∙ c.if-truth.false) (c.get_truth.ensures inputs level)
-
-pub or-returns-then-truth : goal.or-returns-then-truth
-or-returns-then-truth t c = λ inputs level.
-    let v = plain (view c.args.value.now) in
-    let go : Tree → Item → Run Item = run c.args.self.now inputs level in
-    or_stops (go (named c.args.left.now) v) (view c.in_ok-first.first) (go (named c.args.right.now)) v
-    (c.in_ok-first.ensures inputs level) (sym c.truth.ensures ∙ c.if-truth.true)
-    ∙ ap (λ (w : Value). one (plain w)) (sym (view-Bool true))
-
-pub or-returns-in_err-first : goal.or-returns-in_err-first
-or-returns-in_err-first t c = λ inputs level.
-    let v = plain (view c.args.value.now) in
-    let go : Tree → Item → Run Item = run c.args.self.now inputs level in
-    stops c.from_residual.result c.in_err-first.field-0.0 _ c.from_residual.ensures.1 (ends-bind c.in_err-first.field-0.0 (go (named c.args.left.now) v) (on_disjunct (go (named c.args.right.now)) v) (c.in_err-first.ensures inputs level))
-
-pub choice-returns-then-truth : goal.choice-returns-then-truth
-choice-returns-then-truth t c = λ inputs level.
-    let v = plain (view c.args.value.now) in
-    let go : Tree → Item → Run Item = run c.args.self.now inputs level in
-    test_holds c.get-then-truth.result (go (named c.args.condition.now) v) (view c.in_ok-test.test) (go (named c.args.holds.now)) (go (named c.args.fails.now)) v
-    (c.in_ok-test.ensures inputs level) (sym c.truth.ensures ∙ c.if-truth.true) (c.get-then-truth.ensures inputs level)
-
-pub choice-returns : goal.choice-returns
-choice-returns t c = λ inputs level.
-    let v = plain (view c.args.value.now) in
-    let go : Tree → Item → Run Item = run c.args.self.now inputs level in
-    test_fails c.get-else-truth.result (go (named c.args.condition.now) v) (view c.in_ok-test.test) (go (named c.args.holds.now)) (go (named c.args.fails.now)) v
-    (c.in_ok-test.ensures inputs level) (sym c.truth.ensures ∙ c.if-truth.false) (c.get-else-truth.ensures inputs level)
-
-pub choice-returns-in_err-test : goal.choice-returns-in_err-test
-choice-returns-in_err-test t c = λ inputs level.
-    let v = plain (view c.args.value.now) in
-    let go : Tree → Item → Run Item = run c.args.self.now inputs level in
-    stops c.from_residual.result c.in_err-test.field-0.0 _ c.from_residual.ensures.1 (ends-bind c.in_err-test.field-0.0 (go (named c.args.condition.now) v) (on_test (go (named c.args.holds.now)) (go (named c.args.fails.now)) v) (c.in_err-test.ensures inputs level))
+pub decided-returns-in_err-second : goal.decided-returns-in_err-second
+decided-returns-in_err-second t c = λ inputs level.
+    let s = c.in_err-second.field-0.0 in
+    stops _ c.from_residual-in_err-second.result s _ c.from_residual-in_err-second.ensures.1
+    (subst (Ends s) (sym (decided_else c.args.self.now inputs level (named c.args.left.now) (named c.args.right.now) (view c.args.value.now) c.args.by c.truth.result (view c.in_ok-first.first) (c.in_ok-first.ensures inputs level) (sym c.truth.ensures) c.if-truth-by.false))
+    (ends-bind s (run c.args.self.now inputs level (named c.args.right.now) (plain (view c.args.value.now))) truth (c.in_err-second.ensures inputs level)))
 
 -- ---- `//` and `try`
 
-pub alternative-returns-in-Ok-Some : goal.alternative-returns-in-Ok-Some
-alternative-returns-in-Ok-Some t c = λ inputs level.
+pub alternative-returns-then-truth : goal.alternative-returns-then-truth
+alternative-returns-then-truth t c = λ inputs level.
     let v = plain (view c.args.value.now) in
-    (rw c.in-Ok-Some.field-0-is at c.in-Ok-Some.ensures.some) (run c.args.self.now inputs level (named c.args.left.now) v) (run c.args.self.now inputs level (named c.args.right.now)) v (c.get.ensures inputs level)
+    let go : Tree → Item → Run Item = run c.args.self.now inputs level in
+    alternative_known true (go (named c.args.left.now) v) (go (named c.args.right.now)) v (view c.in-Ok.found) (c.in-Ok.ensures inputs level) (sym c.truth.ensures ∙ c.if-truth.true)
 
-pub alternative-returns-in-Ok-None : goal.alternative-returns-in-Ok-None
-alternative-returns-in-Ok-None t c = λ inputs level.
-    let v = plain (view c.args.value.now) in
+pub alternative-returns-in-Err-Nothing : goal.alternative-returns-in-Err-Nothing
+alternative-returns-in-Err-Nothing t c = λ inputs level.
     let right = run c.args.self.now inputs level (named c.args.right.now) in
-    let left = run c.args.self.now inputs level (named c.args.left.now) v in
-    let same : alternative left right v ≡ right v = (rw c.in-Ok-None.field-0-is at c.in-Ok-None.ensures.none) left right v (c.get.ensures inputs level) in
-    subst (Answers c.get-in-Ok-None.result) (sym same) (c.get-in-Ok-None.ensures inputs level)
+    subst (Answers c.get-in-Err-Nothing.result) (sym (ap (λ (q : Run Item). alternative q right (plain (view c.args.value.now))) ((rw c.in-Err-Nothing.field-0-is at c.in-Err-Nothing.ensures) inputs level))) (c.get-in-Err-Nothing.ensures inputs level)
 
-pub alternative-returns-in-Err : goal.alternative-returns-in-Err
-alternative-returns-in-Err t c = λ inputs level.
-    let v = plain (view c.args.value.now) in
-    untold c.in-Err.stop (alternative (run c.args.self.now inputs level (named c.args.left.now) v) (run c.args.self.now inputs level (named c.args.right.now)) v) c.in-Err.ensures.stop
+pub alternative-returns-in-Err-Raised : goal.alternative-returns-in-Err-Raised
+alternative-returns-in-Err-Raised t c = λ inputs level.
+    let right = run c.args.self.now inputs level (named c.args.right.now) in
+    subst (Answers c.get-in-Err-Raised.result) (sym (ap (λ (q : Run Item). alternative q right (plain (view c.args.value.now))) ((rw c.in-Err-Raised.field-0-is at c.in-Err-Raised.ensures) inputs level))) (c.get-in-Err-Raised.ensures inputs level)
 
 pub try_catch-returns-in-Ok : goal.try_catch-returns-in-Ok
 try_catch-returns-in-Ok t c = λ inputs level.
@@ -317,14 +201,16 @@ try_catch-returns-in-Err-Nothing t c = λ inputs level.
 -- ---- outputs that replace the input
 
 pub change_form-returns-in-Call-clause-runs : goal.change_form-returns-in-Call-clause-runs
-change_form-returns-in-Call-clause-runs t c = λ inputs level.
-    subst (λ (u : Tree). Changed c.change_call.result (view c.change_call.new.value) (run c.args.self.now inputs level u (plain (view c.args.value.now))))
-    (sym (ap named c.in-Call.is ∙ named-Call c.in-Call.name c.in-Call.arguments)) (c.change_call.ensures.runs inputs level)
+change_form-returns-in-Call-clause-runs t c =
+    subst (λ (u : Tree). ChangesTo c.args.self.now u (view c.args.value.now) (view c.change_call.new.value) c.change_call.result)
+    (sym (ap named c.in-Call.is ∙ named-Call c.in-Call.name c.in-Call.arguments))
+    (c.change_call.ensures.runs (form.call (name_of c.in-Call.name) (trees_of (map named c.in-Call.arguments.items))) c.called.ensures)
 
 pub change_form-returns-in-PreludeCall-clause-runs : goal.change_form-returns-in-PreludeCall-clause-runs
-change_form-returns-in-PreludeCall-clause-runs t c = λ inputs level.
-    subst (λ (u : Tree). Changed c.change_prelude_call.result (view c.change_prelude_call.new.value) (run c.args.self.now inputs level u (plain (view c.args.value.now))))
-    (sym (ap named c.in-PreludeCall.is ∙ named-PreludeCall c.in-PreludeCall.name c.in-PreludeCall.arguments)) (c.change_prelude_call.ensures.runs inputs level)
+change_form-returns-in-PreludeCall-clause-runs t c =
+    subst (λ (u : Tree). ChangesTo c.args.self.now u (view c.args.value.now) (view c.change_call-in-PreludeCall.new.value) c.change_call-in-PreludeCall.result)
+    (sym (ap named c.in-PreludeCall.is ∙ named-PreludeCall c.in-PreludeCall.name c.in-PreludeCall.arguments))
+    (c.change_call-in-PreludeCall.ensures.runs (form.prelude_call (name_of c.in-PreludeCall.name) (trees_of (map named c.in-PreludeCall.arguments.items))) c.called_in_prelude.ensures)
 
 pub change_form-returns-in-Update-clause-runs : goal.change_form-returns-in-Update-clause-runs
 change_form-returns-in-Update-clause-runs t c = λ inputs level.
@@ -335,109 +221,29 @@ change_form-returns-in-Update-clause-runs t c = λ inputs level.
 pub change_kept-returns-in-Err-clause-keeps : goal.change_kept-returns-in-Err-clause-keeps
 change_kept-returns-in-Err-clause-keeps t c = leaves_same c.in-Err.stop (view c.args.value.now)
 
-pub get_call-returns-in-Function : goal.get_call-returns-in-Function
-get_call-returns-in-Function t c = λ inputs level.
-    let p = c.args.self.now in
-    let n = name_of c.args.name.now in
-    let ts = c.args.arguments.now.items in
-    let e = scope_env inputs p.scope.now in
-    let count : c.len-count.result ≡ length ts = c.len-count.ensures ∙ c.args.arguments.now.ok.0 in
-    subst (Answers c.get_body.result)
-    (ap (λ own. below p.depth (named c.in-Function.function.now.body) own level (plain (view c.args.value.now))) (c.scope_of_call-scope.ensures inputs)
-    ∙ sym (function_runs p inputs level n ts c.in-Function.function.now c.in-Function.own (plain (view c.args.value.now)) (c.in-Function.ensures inputs ∙ ap (λ k. find_callee n k e) count)))
-    (c.get_body.ensures inputs level)
-
-pub get_call-returns-in-Closure : goal.get_call-returns-in-Closure
-get_call-returns-in-Closure t c = λ inputs level.
-    let p = c.args.self.now in
-    let n = name_of c.args.name.now in
-    let ts = c.args.arguments.now.items in
-    let e = scope_env inputs p.scope.now in
-    let count : c.len-count.result ≡ length ts = c.len-count.ensures ∙ c.args.arguments.now.ok.0 in
-    subst (Answers c.get_body-in-Closure.result)
-    (sym (closure_runs p inputs level n ts (named c.in-Closure.body.now) c.in-Closure.own (plain (view c.args.value.now)) (c.in-Closure.ensures inputs ∙ ap (λ k. find_callee n k e) count)))
-    (c.get_body-in-Closure.ensures inputs level)
-
-pub get_call-returns-in-Nothing : goal.get_call-returns-in-Nothing
-get_call-returns-in-Nothing t c = λ inputs level.
-    let p = c.args.self.now in
-    let n = name_of c.args.name.now in
-    let ts = c.args.arguments.now.items in
-    let e = scope_env inputs p.scope.now in
-    let count : c.len-count.result ≡ length ts = c.len-count.ensures ∙ c.args.arguments.now.ok.0 in
-    let b = meaning_of c.builtin_named-builtin.result in
-    let means : b ≡ builtin_named n (length ts) =
-    c.builtin_named-builtin.ensures ∙ ap (λ bs. builtin_named (chars bs) c.len-count.result) c.as_str.ensures.value ∙ ap (builtin_named n) count in
-    subst (Answers c.get_builtin.result)
-    (ap (λ us. builtin_in p inputs level b (trees_of (map named us)) (plain (view c.args.value.now))) c.as_slice.ensures.value
-    ∙ sym (builtin_runs p inputs level n ts b (plain (view c.args.value.now)) (c.in-Nothing.ensures inputs ∙ ap (λ k. find_callee n k e) count) means))
-    (c.get_builtin.ensures inputs level)
-
 pub change_call-returns-in-Function-clause-runs : goal.change_call-returns-in-Function-clause-runs
-change_call-returns-in-Function-clause-runs t c = λ inputs level.
+change_call-returns-in-Function-clause-runs t c = λ tree calls inputs level.
     let p = c.args.self.now in
-    let n = name_of c.args.name.now in
-    let ts = c.args.arguments.now.items in
-    let e = scope_env inputs p.scope.now in
-    let count : c.len-count.result ≡ length ts = c.len-count.ensures ∙ c.args.arguments.now.ok.0 in
+    let x = plain (view c.args.value.now) in
     subst (Changed c.change_body.result (view c.change_body.new.value))
-    (ap (λ own. below p.depth (named c.in-Function.function.now.body) own level (plain (view c.args.value.now))) (c.scope_of_call-scope.ensures inputs)
-    ∙ sym (function_runs p inputs level n ts c.in-Function.function.now c.in-Function.own (plain (view c.args.value.now)) (c.in-Function.ensures inputs ∙ ap (λ k. find_callee n k e) count)))
+    (ap (λ own. below p.depth (named c.in-Function.function.now.body) own level x) (c.scope_of_call-scope.ensures inputs) ∙ sym (subst (Calls p tree c.args.arguments.now.items) c.in-Function.is calls inputs level x))
     (c.change_body.ensures.runs inputs level)
 
 pub change_call-returns-in-Closure-clause-runs : goal.change_call-returns-in-Closure-clause-runs
-change_call-returns-in-Closure-clause-runs t c = λ inputs level.
+change_call-returns-in-Closure-clause-runs t c = λ tree calls inputs level.
     let p = c.args.self.now in
-    let n = name_of c.args.name.now in
-    let ts = c.args.arguments.now.items in
-    let e = scope_env inputs p.scope.now in
-    let count : c.len-count.result ≡ length ts = c.len-count.ensures ∙ c.args.arguments.now.ok.0 in
+    let x = plain (view c.args.value.now) in
     subst (Changed c.change_body-in-Closure.result (view c.change_body-in-Closure.new.value))
-    (sym (closure_runs p inputs level n ts (named c.in-Closure.body.now) c.in-Closure.own (plain (view c.args.value.now)) (c.in-Closure.ensures inputs ∙ ap (λ k. find_callee n k e) count)))
+    (sym (subst (Calls p tree c.args.arguments.now.items) c.in-Closure.is calls inputs level x))
     (c.change_body-in-Closure.ensures.runs inputs level)
 
-pub change_call-returns-in-Nothing-clause-runs : goal.change_call-returns-in-Nothing-clause-runs
-change_call-returns-in-Nothing-clause-runs t c = λ inputs level.
+pub change_call-returns-in-Builtin-clause-runs : goal.change_call-returns-in-Builtin-clause-runs
+change_call-returns-in-Builtin-clause-runs t c = λ tree calls inputs level.
     let p = c.args.self.now in
-    let n = name_of c.args.name.now in
-    let ts = c.args.arguments.now.items in
-    let e = scope_env inputs p.scope.now in
-    let count : c.len-count.result ≡ length ts = c.len-count.ensures ∙ c.args.arguments.now.ok.0 in
-    let b = meaning_of c.builtin_named-builtin.result in
-    let means : b ≡ builtin_named n (length ts) =
-    c.builtin_named-builtin.ensures ∙ ap (λ bs. builtin_named (chars bs) c.len-count.result) c.as_str.ensures.value ∙ ap (builtin_named n) count in
+    let x = plain (view c.args.value.now) in
     subst (Changed c.change_builtin.result (view c.change_builtin.new.value))
-    (ap (λ us. builtin_in p inputs level b (trees_of (map named us)) (plain (view c.args.value.now))) c.as_slice.ensures.value
-    ∙ sym (builtin_runs p inputs level n ts b (plain (view c.args.value.now)) (c.in-Nothing.ensures inputs ∙ ap (λ k. find_callee n k e) count) means))
+    (ap (λ us. builtin_in p inputs level (meaning_of c.in-Builtin.builtin) (trees_of (map named us)) x) c.as_slice.ensures.value ∙ sym (subst (Calls p tree c.args.arguments.now.items) c.in-Builtin.is calls inputs level x))
     (c.change_builtin.ensures.runs inputs level)
-
-pub change_prelude_call-returns-in-Function-clause-runs : goal.change_prelude_call-returns-in-Function-clause-runs
-change_prelude_call-returns-in-Function-clause-runs t c = λ inputs level.
-    let p = c.args.self.now in
-    let n = name_of c.args.name.now in
-    let ts = c.args.arguments.now.items in
-    let e = scope_env inputs p.scope.now in
-    let count : c.len-count.result ≡ length ts = c.len-count.ensures ∙ c.args.arguments.now.ok.0 in
-    subst (Changed c.change_body.result (view c.change_body.new.value))
-    (ap (λ own. below p.depth (named c.in-Function.function.now.body) own level (plain (view c.args.value.now))) (c.scope_of_call-scope.ensures inputs)
-    ∙ sym (prelude_runs p inputs level n ts c.in-Function.function.now c.in-Function.own (plain (view c.args.value.now)) (c.in-Function.ensures inputs ∙ ap (λ k. find_in_prelude n k e) count)))
-    (c.change_body.ensures.runs inputs level)
-
-pub get_body-returns : goal.get_body-returns
-get_body-returns t c = λ inputs level.
-    let depth = c.args.self.now.depth in
-    subst (Answers c.get.result)
-    (body_runs (scope_env inputs c.args.own.now) depth (depth - 1) level (named c.args.body.now) (plain (view c.args.value.now)) (omega arith))
-    (c.get.ensures inputs level)
-
-pub get_builtin-returns-in-Native : goal.get_builtin-returns-in-Native
-get_builtin-returns-in-Native t c = λ inputs level.
-    let p = c.args.self.now in
-    let us = trees_of (map named c.args.arguments.now) in
-    let v = view c.args.value.now in
-    subst (Answers c.get_native.result)
-    (sym (ap (λ b. builtin_in p inputs level (meaning_of b) us (plain v)) c.in-Native.is ∙ native_plain c.in-Native.native (arguments_with (below p.depth) us (scope_env inputs p.scope.now) level (plain v)) v))
-    (c.get_native.ensures inputs level)
 
 pub change_body-returns-clause-runs : goal.change_body-returns-clause-runs
 change_body-returns-clause-runs t c = λ inputs level.
@@ -455,14 +261,6 @@ change_builtin-returns-in-Native-clause-runs t c = λ inputs level.
     (sym (ap (λ b. builtin_in p inputs level (meaning_of b) us (plain v)) c.in-Native.is ∙ native_plain c.in-Native.native (arguments_with (below p.depth) us (scope_env inputs p.scope.now) level (plain v)) v))
     (c.change_native.ensures.runs inputs level)
 
-pub get_path-returns-in-Some : goal.get_path-returns-in-Some
-get_path-returns-in-Some t c = λ inputs level.
-    let r : Run Item = builtin_in c.args.self.now inputs level meaning.paths (trees_of (map named c.args.arguments.now)) (plain (view c.args.value.now)) in
-    let all : gathered r ≡ one (plain (array (items_of (map view c.gather_paths.new.into.items)))) =
-    gathered_list inputs level 1 (tt {0}) c.new-paths.result.items c.gather_paths.new.into.items r c.new-paths.ensures.items (c.in-Ok.ensures inputs level) in
-    path_of_builtin c.args.self.now inputs level (trees_of (map named c.args.arguments.now)) (view c.args.value.now) (view c.in-Some.path)
-    (all ∙ ap (λ (xs : List Val). one (plain (array (items_of (map view xs))))) c.in-Some.ensures)
-
 pub change_binary-returns-in-Ok-clause-runs : goal.change_binary-returns-in-Ok-clause-runs
 unfolding on_right
 change_binary-returns-in-Ok-clause-runs t c = λ inputs level.
@@ -470,8 +268,8 @@ change_binary-returns-in-Ok-clause-runs t c = λ inputs level.
     let go : Tree → Item → Run Item = run c.args.self.now inputs level in
     let op = operator_of c.args.operator in
     let w = view c.operate_in_place.new.left in
-    changed-bind c.operate_in_place.result w (go (named c.args.right.now) v) (plain (view c.in_ok-second.second)) (on_right op (go (named c.args.left.now) v)) (c.in_ok-second.ensures inputs level)
-    (changed-bind c.operate_in_place.result w (go (named c.args.left.now) v) (plain (view c.change.new.value)) (on_left op (view c.in_ok-second.second)) (c.in-Ok.ensures.runs inputs level) c.operate_in_place.ensures.runs)
+    comes-bind _ c.operate_in_place.result (go (named c.args.right.now) v) (plain (view c.in_ok-second.second)) (on_right op (go (named c.args.left.now) v)) (c.in_ok-second.ensures inputs level)
+    (comes-bind _ c.operate_in_place.result (go (named c.args.left.now) v) (plain (view c.change.new.value)) (on_left op (view c.in_ok-second.second)) (c.in-Ok.ensures.runs inputs level) c.operate_in_place.ensures.runs)
 
 pub change_binary-returns-in-Ok-clause-keeps : goal.change_binary-returns-in-Ok-clause-keeps
 change_binary-returns-in-Ok-clause-keeps t c = c.operate_in_place.ensures.keeps (view c.args.value.now)
@@ -486,10 +284,7 @@ change_binary-returns-clause-runs t c = λ inputs level.
     (ends-bind c.in-Err.stop (go (named c.args.left.now) v) (on_left op (view c.in_ok-second.second)) (c.in-Err.ensures.runs inputs level))
 
 pub change_binary-returns-in_err-second-clause-runs : goal.change_binary-returns-in_err-second-clause-runs
-change_binary-returns-in_err-second-clause-runs t c = λ inputs level.
-    let v = plain (view c.args.value.now) in
-    let go : Tree → Item → Run Item = run c.args.self.now inputs level in
-    changed-stops c.from_residual.result c.in_err-second.field-0.0 _ _ c.from_residual.ensures.1 (ends-bind c.in_err-second.field-0.0 (go (named c.args.right.now) v) (on_right (operator_of c.args.operator) (go (named c.args.left.now) v)) (c.in_err-second.ensures inputs level))
+change_binary-returns-in_err-second-clause-runs t c = λ inputs level. fails _ c.from_residual.result c.in_err-second.field-0.0 c.args.self.now (named c.args.right.now) (view c.args.value.now) (on_right (operator_of c.args.operator) (run c.args.self.now inputs level (named c.args.left.now) (plain (view c.args.value.now)))) inputs level c.from_residual.ensures.1 c.in_err-second.ensures
 
 pub change_binary-returns-in_err-second-clause-keeps : goal.change_binary-returns-in_err-second-clause-keeps
 change_binary-returns-in_err-second-clause-keeps t c = keeps-stops c.from_residual.result c.in_err-second.field-0.0 (view c.args.value.now) c.from_residual.ensures.1
@@ -498,21 +293,20 @@ pub change_choice-returns-then-truth-clause-runs : goal.change_choice-returns-th
 change_choice-returns-then-truth-clause-runs t c = λ inputs level.
     let v = plain (view c.args.value.now) in
     let go : Tree → Item → Run Item = run c.args.self.now inputs level in
-    changed_holds c.change.result (view c.change.new.value) (go (named c.args.condition.now) v) (view c.in_ok-test.test) (go (named c.args.holds.now)) (go (named c.args.fails.now)) v
-    (c.in_ok-test.ensures inputs level) (sym c.truth.ensures ∙ c.if-truth.true) (c.change.ensures.runs inputs level)
+    subst (Changed c.change.result (view c.change.new.value))
+    (sym (picks_holds (go (named c.args.condition.now) v) (view c.in_ok-test.test) (go (named c.args.holds.now)) (go (named c.args.fails.now)) v (c.in_ok-test.ensures inputs level) (sym c.truth.ensures ∙ c.if-truth.true)))
+    (c.change.ensures.runs inputs level)
 
 pub change_choice-returns-clause-runs : goal.change_choice-returns-clause-runs
 change_choice-returns-clause-runs t c = λ inputs level.
     let v = plain (view c.args.value.now) in
     let go : Tree → Item → Run Item = run c.args.self.now inputs level in
-    changed_fails c.change-else-truth.result (view c.change-else-truth.new.value) (go (named c.args.condition.now) v) (view c.in_ok-test.test) (go (named c.args.holds.now)) (go (named c.args.fails.now)) v
-    (c.in_ok-test.ensures inputs level) (sym c.truth.ensures ∙ c.if-truth.false) (c.change-else-truth.ensures.runs inputs level)
+    subst (Changed c.change-else-truth.result (view c.change-else-truth.new.value))
+    (sym (picks_fails (go (named c.args.condition.now) v) (view c.in_ok-test.test) (go (named c.args.holds.now)) (go (named c.args.fails.now)) v (c.in_ok-test.ensures inputs level) (sym c.truth.ensures ∙ c.if-truth.false)))
+    (c.change-else-truth.ensures.runs inputs level)
 
 pub change_choice-returns-in_err-test-clause-runs : goal.change_choice-returns-in_err-test-clause-runs
-change_choice-returns-in_err-test-clause-runs t c = λ inputs level.
-    let v = plain (view c.args.value.now) in
-    let go : Tree → Item → Run Item = run c.args.self.now inputs level in
-    changed-stops c.from_residual.result c.in_err-test.field-0.0 _ _ c.from_residual.ensures.1 (ends-bind c.in_err-test.field-0.0 (go (named c.args.condition.now) v) (on_test (go (named c.args.holds.now)) (go (named c.args.fails.now)) v) (c.in_err-test.ensures inputs level))
+change_choice-returns-in_err-test-clause-runs t c = λ inputs level. fails _ c.from_residual.result c.in_err-test.field-0.0 c.args.self.now (named c.args.condition.now) (view c.args.value.now) (on_test (run c.args.self.now inputs level (named c.args.holds.now)) (run c.args.self.now inputs level (named c.args.fails.now)) (plain (view c.args.value.now))) inputs level c.from_residual.ensures.1 c.in_err-test.ensures
 
 pub change_choice-returns-in_err-test-clause-keeps : goal.change_choice-returns-in_err-test-clause-keeps
 change_choice-returns-in_err-test-clause-keeps t c = keeps-stops c.from_residual.result c.in_err-test.field-0.0 (view c.args.value.now) c.from_residual.ensures.1
@@ -529,21 +323,23 @@ change_binding-returns-in_ok-found-in-Whole-clause-runs t c = λ inputs level.
 
 pub array-returns : goal.array-returns
 array-returns t c = λ inputs level.
-    let p = c.args.self.now in
-    let made = c.in_ok-from_vec.field-0 in
-    let input : item_of c.plain-input.result ≡ plain (view c.args.value.now) = c.plain-input.ensures ∙ ap plain c.in_ok-copy.ensures in
-    gathers_all p (named c.args.filter.now) (view c.args.value.now) 0 (Ok (tt {0})) c.new-items.result.items c.gather.new.into.items (item_of c.plain-input.result) input c.new-items.ensures.items c.in_ok-gather.ensures inputs level
-    ∙ ap (λ (v : Value). one (plain v)) (ap (λ (xs : List Val). array (items_of (map view xs))) (sym c.in_ok-from_vec.ensures) ∙ sym (view-List made))
+    c.in_ok-collect.ensures inputs level
+    ∙ ap (λ (v : Value). one (plain v)) (ap (λ (xs : List Val). array (items_of (map view xs))) (sym c.in_ok-from_vec.ensures) ∙ sym (view-List c.in_ok-from_vec.field-0))
 
-pub array-returns-in_err-gather : goal.array-returns-in_err-gather
-array-returns-in_err-gather t c = λ inputs level.
-    let p = c.args.self.now in
-    let s = c.in_err-gather.field-0.0 in
-    let r = run p inputs level (named c.args.filter.now) (item_of c.plain-input.result) in
-    let input : item_of c.plain-input.result ≡ plain (view c.args.value.now) = c.plain-input.ensures ∙ ap plain c.in_ok-copy.ensures in
-    stops c.from_residual-in_err-gather.result s _ c.from_residual-in_err-gather.ensures.1
-    (subst (λ (x : Item). Ends s (gathered (run p inputs level (named c.args.filter.now) x))) input
-    (ends_gathered inputs level 0 s c.new-items.result.items r c.new-items.ensures.items (c.in_err-gather.ensures inputs level)))
+pub array-returns-in_err-collect : goal.array-returns-in_err-collect
+array-returns-in_err-collect t c = λ inputs level. stops _ c.from_residual.result c.in_err-collect.field-0.0 _ c.from_residual.ensures.1 (c.in_err-collect.ensures inputs level)
+
+pub gather-returns-in-Call : goal.gather-returns-in-Call
+gather-returns-in-Call t c =
+    subst (λ (u : Tree). GathersOf c.args.self.now u (item_of c.args.item.now) c.args.rest.now c.gather_call.result c.args.into.now.items c.gather_call.new.into.items)
+    (sym (ap named c.in-Call.is ∙ named-Call c.in-Call.name c.in-Call.arguments))
+    (c.gather_call.ensures (form.call (name_of c.in-Call.name) (trees_of (map named c.in-Call.arguments.items))) c.called.ensures)
+
+pub gather-returns-in-PreludeCall : goal.gather-returns-in-PreludeCall
+gather-returns-in-PreludeCall t c =
+    subst (λ (u : Tree). GathersOf c.args.self.now u (item_of c.args.item.now) c.args.rest.now c.gather_call-in-PreludeCall.result c.args.into.now.items c.gather_call-in-PreludeCall.new.into.items)
+    (sym (ap named c.in-PreludeCall.is ∙ named-PreludeCall c.in-PreludeCall.name c.in-PreludeCall.arguments))
+    (c.gather_call-in-PreludeCall.ensures (form.prelude_call (name_of c.in-PreludeCall.name) (trees_of (map named c.in-PreludeCall.arguments.items))) c.called_in_prelude-found.ensures)
 
 pub gather_parts-returns : goal.gather_parts-returns
 gather_parts-returns t c = λ inputs level.
@@ -678,54 +474,28 @@ gather_binding-returns-in_ok-copy-in-Whole t c = λ inputs level.
     (subst (Gathers (made inputs level c.args.rest.now) c.gather.result c.args.into.now.items c.gather.new.into.items) (ap (λ y. bind (source y) body) input ∙ sym same) (c.gather.ensures inputs level))
 
 pub gather_call-returns-in-Function : goal.gather_call-returns-in-Function
-gather_call-returns-in-Function t c = λ inputs level.
+gather_call-returns-in-Function t c = λ tree calls inputs level.
     let p = c.args.self.now in
-    let n = name_of c.args.name.now in
-    let ts = c.args.arguments.now.items in
-    let e = scope_env inputs p.scope.now in
-    let count : c.len-count.result ≡ length ts = c.len-count.ensures ∙ c.args.arguments.now.ok.0 in
+    let x = item_of c.args.item.now in
     subst (λ r. Gathers (made inputs level c.args.rest.now) c.gather_body.result c.args.into.now.items c.gather_body.new.into.items (bind r (rest_run inputs level c.args.rest.now)))
-    (ap (λ own. below p.depth (named c.in-Function.function.now.body) own level (item_of c.args.item.now)) (c.scope_of_call-scope.ensures inputs)
-    ∙ sym (function_runs p inputs level n ts c.in-Function.function.now c.in-Function.own (item_of c.args.item.now) (c.in-Function.ensures inputs ∙ ap (λ k. find_callee n k e) count)))
+    (ap (λ own. below p.depth (named c.in-Function.function.now.body) own level x) (c.scope_of_call-scope.ensures inputs) ∙ sym (subst (Calls p tree c.args.arguments.now.items) c.in-Function.is calls inputs level x))
     (c.gather_body.ensures inputs level)
 
 pub gather_call-returns-in-Closure : goal.gather_call-returns-in-Closure
-gather_call-returns-in-Closure t c = λ inputs level.
+gather_call-returns-in-Closure t c = λ tree calls inputs level.
     let p = c.args.self.now in
-    let n = name_of c.args.name.now in
-    let ts = c.args.arguments.now.items in
-    let e = scope_env inputs p.scope.now in
-    let count : c.len-count.result ≡ length ts = c.len-count.ensures ∙ c.args.arguments.now.ok.0 in
+    let x = item_of c.args.item.now in
     subst (λ r. Gathers (made inputs level c.args.rest.now) c.gather_body-in-Closure.result c.args.into.now.items c.gather_body-in-Closure.new.into.items (bind r (rest_run inputs level c.args.rest.now)))
-    (sym (closure_runs p inputs level n ts (named c.in-Closure.body.now) c.in-Closure.own (item_of c.args.item.now) (c.in-Closure.ensures inputs ∙ ap (λ k. find_callee n k e) count)))
+    (sym (subst (Calls p tree c.args.arguments.now.items) c.in-Closure.is calls inputs level x))
     (c.gather_body-in-Closure.ensures inputs level)
 
-pub gather_call-returns-in-Nothing : goal.gather_call-returns-in-Nothing
-gather_call-returns-in-Nothing t c = λ inputs level.
+pub gather_call-returns-in-Builtin : goal.gather_call-returns-in-Builtin
+gather_call-returns-in-Builtin t c = λ tree calls inputs level.
     let p = c.args.self.now in
-    let n = name_of c.args.name.now in
-    let ts = c.args.arguments.now.items in
-    let e = scope_env inputs p.scope.now in
-    let count : c.len-count.result ≡ length ts = c.len-count.ensures ∙ c.args.arguments.now.ok.0 in
-    let b = meaning_of c.builtin_named-builtin.result in
-    let means : b ≡ builtin_named n (length ts) =
-    c.builtin_named-builtin.ensures ∙ ap (λ bs. builtin_named (chars bs) c.len-count.result) c.as_str.ensures.value ∙ ap (builtin_named n) count in
+    let x = item_of c.args.item.now in
     subst (λ r. Gathers (made inputs level c.args.rest.now) c.gather_builtin.result c.args.into.now.items c.gather_builtin.new.into.items (bind r (rest_run inputs level c.args.rest.now)))
-    (ap (λ us. builtin_in p inputs level b (trees_of (map named us)) (item_of c.args.item.now)) c.as_slice.ensures.value
-    ∙ sym (builtin_runs p inputs level n ts b (item_of c.args.item.now) (c.in-Nothing.ensures inputs ∙ ap (λ k. find_callee n k e) count) means))
+    (ap (λ us. builtin_in p inputs level (meaning_of c.in-Builtin.builtin) (trees_of (map named us)) x) c.as_slice.ensures.value ∙ sym (subst (Calls p tree c.args.arguments.now.items) c.in-Builtin.is calls inputs level x))
     (c.gather_builtin.ensures inputs level)
-
-pub gather_prelude_call-returns-in-Function : goal.gather_prelude_call-returns-in-Function
-gather_prelude_call-returns-in-Function t c = λ inputs level.
-    let p = c.args.self.now in
-    let n = name_of c.args.name.now in
-    let ts = c.args.arguments.now.items in
-    let e = scope_env inputs p.scope.now in
-    let count : c.len-count.result ≡ length ts = c.len-count.ensures ∙ c.args.arguments.now.ok.0 in
-    subst (λ r. Gathers (made inputs level c.args.rest.now) c.gather_body.result c.args.into.now.items c.gather_body.new.into.items (bind r (rest_run inputs level c.args.rest.now)))
-    (ap (λ own. below p.depth (named c.in-Function.function.now.body) own level (item_of c.args.item.now)) (c.scope_of_call-scope.ensures inputs)
-    ∙ sym (prelude_runs p inputs level n ts c.in-Function.function.now c.in-Function.own (item_of c.args.item.now) (c.in-Function.ensures inputs ∙ ap (λ k. find_in_prelude n k e) count)))
-    (c.gather_body.ensures inputs level)
 
 pub gather_body-returns : goal.gather_body-returns
 gather_body-returns t c = λ inputs level.
@@ -754,17 +524,17 @@ pub gather_builtin-returns-in-Ok : goal.gather_builtin-returns-in-Ok
 gather_builtin-returns-in-Ok t c = λ inputs level.
     let go : Item → Run Item = builtin_in c.args.self.now inputs level (meaning_of c.args.builtin) (trees_of (map named c.args.arguments.now)) in
     subst (λ r. Gathers (made inputs level c.args.rest.now) c.give.result c.args.into.now.items c.give.new.into.items (bind r (rest_run inputs level c.args.rest.now)))
-    (ap one c.plain-output.ensures ∙ sym (ap go (absent c.args.item.now (sym c.is_present.ensures ∙ c.if-is_present.false)) ∙ c.in-Ok.ensures inputs level))
+    (ap one c.plain.ensures
+    ∙ sym (ap go (absent c.args.item.now (sym c.is_present.ensures ∙ c.if-is_present.false)) ∙ ap (λ (v : Value). go (plain v)) (sym c.in_ok-found-in_default.ensures) ∙ c.in-Ok.ensures.runs inputs level))
     (c.give.ensures inputs level)
 
 pub gather_builtin-returns-in-Err : goal.gather_builtin-returns-in-Err
 gather_builtin-returns-in-Err t c = λ inputs level.
     let go : Item → Run Item = builtin_in c.args.self.now inputs level (meaning_of c.args.builtin) (trees_of (map named c.args.arguments.now)) in
-    let r = go (item_of c.args.item.now) in
-    let later : Item → Run Item = rest_run inputs level c.args.rest.now in
-    c.ended.ensures inputs level c.args.rest.now (bind r later) c.args.into.now.items
-    (ends-bind c.in-Err.stop r later
-    (subst (λ (x : Item). Ends c.in-Err.stop (go x)) (sym (absent c.args.item.now (sym c.is_present.ensures ∙ c.if-is_present.false))) (c.in-Err.ensures inputs level)))
+    let x = item_of c.args.item.now in
+    c.ended.ensures inputs level c.args.rest.now (bind (go x) (rest_run inputs level c.args.rest.now)) c.args.into.now.items
+    (ends-bind c.in-Err.stop (go x) (rest_run inputs level c.args.rest.now)
+    (subst (λ (y : Item). Ends c.in-Err.stop (go y)) (ap plain c.in_ok-found-in_default.ensures ∙ sym (absent c.args.item.now (sym c.is_present.ensures ∙ c.if-is_present.false))) (c.in-Err.ensures.runs inputs level)))
 
 pub gather_paths-returns-in_ok-start-in-len1 : goal.gather_paths-returns-in_ok-start-in-len1
 gather_paths-returns-in_ok-start-in-len1 t c = λ inputs level.
@@ -785,22 +555,22 @@ give_outputs-returns-in-Error t c = λ inputs level.
     let later : Item → Run Item = rest_run inputs level c.args.rest.now in
     gathers-fail inputs level c.args.rest.now c.args.into.now.items (view c.in-Error.error) (bind (outputs_of c.args.outputs) later) (ap (λ o. bind (outputs_of o) later) c.in-Error.is)
 
-pub give_several-returns : goal.give_several-returns
-give_several-returns t c = λ inputs level.
+pub give_all-returns : goal.give_all-returns
+give_all-returns t c = λ inputs level.
     let given = c.loop-item.into.items in
     let later : Item → Run Item = rest_run inputs level c.args.rest.now in
-    let none_left : given_of c.loop-item.items.items ≡ none = search rules in
+    let none_left : supplied c.loop-item.supply ≡ none = search rules in
     c.loop-item.invariant inputs level (Ok (tt {0})) given
-    (gathers-none (made inputs level c.args.rest.now) (tt {0}) given (bind (given_of c.loop-item.items.items) later) (ap (λ r. bind r later) none_left))
+    (gathers-none (made inputs level c.args.rest.now) (tt {0}) given (bind (supplied c.loop-item.supply) later) (ap (λ r. bind r later) none_left))
 
-pub give_several-returns-in-Err : goal.give_several-returns-in-Err
-give_several-returns-in-Err t c = λ inputs level.
+pub give_all-returns-in-Err : goal.give_all-returns-in-Err
+give_all-returns-in-Err t c = λ inputs level.
     let later : Item → Run Item = rest_run inputs level c.args.rest.now in
     c.loop-item.invariant inputs level (Err c.in-Err.stop) []
     (stops_first (made inputs level c.args.rest.now) c.in-Err.stop c.loop-item.into.items _ _ (item_of c.in-Some.item) later c.in-Some.ensures (c.in-Err.ensures inputs level))
 
-pub give_several-loop-item-preserved : goal.give_several-loop-item-preserved
-give_several-loop-item-preserved t c = λ inputs level a ys h.
+pub give_all-loop-item-preserved : goal.give_all-loop-item-preserved
+give_all-loop-item-preserved t c = λ inputs level a ys h.
     let later : Item → Run Item = rest_run inputs level c.args.rest.now in
     c.loop-item.invariant inputs level a ys
     (gives_first (made inputs level c.args.rest.now) c.in-Ok.field-0 a c.loop-item.into.items c.give.new.into.items ys _ _ (item_of c.in-Some.item) later c.in-Some.ensures (c.in-Ok.ensures inputs level) h)
@@ -812,84 +582,33 @@ give-returns-in-Fold t c = λ inputs level.
     subst (λ (l : Rest). Gathers (made inputs level l) c.turn.result c.args.into.now.items c.turn.new.states.items (bind (one x) (rest_run inputs level l))) (sym c.in-Fold.is)
     (fold_value q inputs level (text_of c.in-Fold.name.now) (named c.in-Fold.update.now) c.turn.result c.args.into.now.items c.turn.new.states.items x (view c.args.item.value) (value_of_item c.args.item) (c.turn.ensures inputs level))
 
-pub gather_range-returns-in-Ok-get : goal.gather_range-returns-in-Ok-get
-gather_range-returns-in-Ok-get t c = λ inputs level.
-    let p = c.args.self.now in
-    let ts = c.args.arguments.now in
-    let v = view c.args.value.now in
-    let first = c.start-item.result in
-    let second = c.end-item.result in
-    let two : length ts ≡ 2 = omega (arith, c.in-len2.len_at_least, c.in-len2.len_below) in
-    let later : Item → Run Item = rest_run inputs level c.args.rest.now in
-    let start : Run Item = run p inputs level (named first) (plain v) in
-    let end : Run Item = run p inputs level (named second) (plain v) in
-    let next : Item → Run Item = λ x. bind end (λ y. range_of (value_in x ∷ value_in y ∷ [])) in
-    let r : Run Item = builtin_in p inputs level meaning.range (trees_of (map named ts)) (plain v) in
-    let same : r ≡ bind start next = two_chosen p inputs level range_of ts first second v two c.start-item.is c.end-item.is in
-    let low : Item = plain (view c.in-Ok.first) in
-    let numbers : Item → Run Item = λ y. range_of (view c.in-Ok.first ∷ value_in y ∷ []) in
-    subst (λ q. Gathers (made inputs level c.args.rest.now) c.give_range.result c.args.into.now.items c.give_range.new.into.items (bind q later))
-    (sym (same ∙ bind-known start low next (c.in-Ok.ensures inputs level) ∙ bind-known end (plain (view c.in-Ok-get.last)) numbers (c.in-Ok-get.ensures inputs level)))
-    (c.give_range.ensures inputs level)
-
-pub gather_range-returns-in-len2 : goal.gather_range-returns-in-len2
-gather_range-returns-in-len2 t c = λ inputs level.
-    let p = c.args.self.now in
-    let ts = c.args.arguments.now in
-    let v = view c.args.value.now in
-    let first = c.start-item.result in
-    let second = c.end-item.result in
-    let two : length ts ≡ 2 = omega (arith, c.in-len2.len_at_least, c.in-len2.len_below) in
-    let later : Item → Run Item = rest_run inputs level c.args.rest.now in
-    let start : Run Item = run p inputs level (named first) (plain v) in
-    let end : Run Item = run p inputs level (named second) (plain v) in
-    let next : Item → Run Item = λ x. bind end (λ y. range_of (value_in x ∷ value_in y ∷ [])) in
-    let r : Run Item = builtin_in p inputs level meaning.range (trees_of (map named ts)) (plain v) in
-    let same : r ≡ bind start next = two_chosen p inputs level range_of ts first second v two c.start-item.is c.end-item.is in
-    c.ended-in-Err.ensures inputs level c.args.rest.now (bind r later) c.args.into.now.items
-    (ends-bind c.in-Err.stop r later (subst (Ends c.in-Err.stop) (sym same) (ends-bind c.in-Err.stop start next (c.in-Err.ensures inputs level))))
-
 pub gather_range-returns-in-Ok : goal.gather_range-returns-in-Ok
 gather_range-returns-in-Ok t c = λ inputs level.
     let p = c.args.self.now in
     let ts = c.args.arguments.now in
     let v = view c.args.value.now in
-    let first = c.start-item.result in
-    let second = c.end-item.result in
     let two : length ts ≡ 2 = omega (arith, c.in-len2.len_at_least, c.in-len2.len_below) in
-    let later : Item → Run Item = rest_run inputs level c.args.rest.now in
-    let start : Run Item = run p inputs level (named first) (plain v) in
-    let end : Run Item = run p inputs level (named second) (plain v) in
-    let next : Item → Run Item = λ x. bind end (λ y. range_of (value_in x ∷ value_in y ∷ [])) in
     let r : Run Item = builtin_in p inputs level meaning.range (trees_of (map named ts)) (plain v) in
-    let same : r ≡ bind start next = two_chosen p inputs level range_of ts first second v two c.start-item.is c.end-item.is in
-    let s = c.in-Err-get.stop in
-    let low : Item = plain (view c.in-Ok.first) in
-    let numbers : Item → Run Item = λ y. range_of (view c.in-Ok.first ∷ value_in y ∷ []) in
-    c.ended.ensures inputs level c.args.rest.now (bind r later) c.args.into.now.items
-    (ends-bind s r later (subst (Ends s) (sym same) (ends-after s start low next (c.in-Ok.ensures inputs level) (ends-bind s end numbers (c.in-Err-get.ensures inputs level)))))
+    let g : Item → Item → Run Item = λ x y. range_of (value_in x ∷ value_in y ∷ []) in
+    let start : Run Item = run p inputs level (named c.start-item.result) (plain v) in
+    let end : Run Item = run p inputs level (named c.end-item.result) (plain v) in
+    let same : r ≡ bind start (λ x. bind end (g x)) = two_chosen p inputs level range_of ts c.start-item.result c.end-item.result v two c.start-item.is c.end-item.is in
+    subst (λ q. Gathers (made inputs level c.args.rest.now) c.give_range.result c.args.into.now.items c.give_range.new.into.items (bind q (rest_run inputs level c.args.rest.now)))
+    (sym (same ∙ c.in-Ok.ensures inputs level g)) (c.give_range.ensures inputs level)
 
-pub give_numbers-returns : goal.give_numbers-returns
-give_numbers-returns t c = λ inputs level.
-    let given = c.loop-value.into.items in
-    let later : Item → Run Item = rest_run inputs level c.args.rest.now in
-    let none_left : numbers_from c.loop-value.next (to_z w64 (of_z w64 c.args.end)) ≡ none = search rules in
-    simp (to_z-of_z, c.ranges.first, c.ranges.end) at (c.loop-value.invariant inputs level (Ok (tt {0})) given
-    (gathers-none (made inputs level c.args.rest.now) (tt {0}) given (bind (numbers_from c.loop-value.next (to_z w64 (of_z w64 c.args.end))) later) (ap (λ r. bind r later) none_left)))
-
-pub give_numbers-returns-in-Err : goal.give_numbers-returns-in-Err
-give_numbers-returns-in-Err t c = λ inputs level.
-    let later : Item → Run Item = rest_run inputs level c.args.rest.now in
-    simp (to_z-of_z, c.ranges.first, c.ranges.end) at (c.loop-value.invariant inputs level (Err c.in-Err.stop) []
-    (stops_first (made inputs level c.args.rest.now) c.in-Err.stop c.loop-value.into.items _ _ (plain (view c.in-Some.value)) later c.in-Some.ensures
-    (subst (λ (x : Item). (q : Run Item) → Ends c.in-Err.stop (made inputs level c.args.rest.now c.loop-value.into.items (then_run (bind (one x) later) q))) c.plain-item.ensures (c.in-Err.ensures inputs level))))
-
-pub give_numbers-loop-value-preserved : goal.give_numbers-loop-value-preserved
-give_numbers-loop-value-preserved t c = λ inputs level a ys h.
-    let later : Item → Run Item = rest_run inputs level c.args.rest.now in
-    c.loop-value.invariant inputs level a ys
-    (gives_first (made inputs level c.args.rest.now) c.in-Ok.field-0 a c.loop-value.into.items c.give.new.into.items ys _ _ (plain (view c.in-Some.value)) later c.in-Some.ensures
-    (subst (λ (x : Item). Gathers (made inputs level c.args.rest.now) (Ok c.in-Ok.field-0) c.loop-value.into.items c.give.new.into.items (bind (one x) later)) c.plain-item.ensures (c.in-Ok.ensures inputs level)) h)
+pub gather_range-returns-in-Err : goal.gather_range-returns-in-Err
+gather_range-returns-in-Err t c = λ inputs level.
+    let p = c.args.self.now in
+    let ts = c.args.arguments.now in
+    let v = view c.args.value.now in
+    let two : length ts ≡ 2 = omega (arith, c.in-len2.len_at_least, c.in-len2.len_below) in
+    let r : Run Item = builtin_in p inputs level meaning.range (trees_of (map named ts)) (plain v) in
+    let g : Item → Item → Run Item = λ x y. range_of (value_in x ∷ value_in y ∷ []) in
+    let start : Run Item = run p inputs level (named c.start-item.result) (plain v) in
+    let end : Run Item = run p inputs level (named c.end-item.result) (plain v) in
+    let same : r ≡ bind start (λ x. bind end (g x)) = two_chosen p inputs level range_of ts c.start-item.result c.end-item.result v two c.start-item.is c.end-item.is in
+    c.ended.ensures inputs level c.args.rest.now (bind r (rest_run inputs level c.args.rest.now)) c.args.into.now.items
+    (ends-bind c.in-Err.stop r (rest_run inputs level c.args.rest.now) (subst (Ends c.in-Err.stop) (sym same) (c.in-Err.ensures inputs level g)))
 
 -- ---- strings
 
@@ -906,8 +625,8 @@ first_piece-returns t c = λ inputs level.
     let back = text_in c.in_ok-back.back in
     let expected = format_of f (view c.in_ok-found.found) in
     let made = c.in_ok-text_in_format.field-0 in
-    text-bind c.inserted.result later back (on_back f front filter) (c.in_ok-back.ensures inputs level)
-    (text-bind c.inserted.result filter (plain (view c.in_ok-found.found)) (on_inserted f front back) (c.in_ok-found.ensures inputs level)
+    comes-bind _ c.inserted.result later back (on_back f front filter) (c.in_ok-back.ensures inputs level)
+    (comes-bind _ c.inserted.result filter (plain (view c.in_ok-found.found)) (on_inserted f front back) (c.in_ok-found.ensures inputs level)
     (c.inserted.ensures front back expected (subst (λ (bs : List ℕ). Inserts (chars bs) expected back made) c.as_str-front.ensures.value (subst (λ (bs : List ℕ). Inserts (chars c.as_str-front.result.now) expected (chars bs) made) c.as_str.ensures c.in_ok-text_in_format.ensures))))
 
 pub first_piece-returns-in_err-back : goal.first_piece-returns-in_err-back
@@ -919,7 +638,7 @@ first_piece-returns-in_err-back t c = λ inputs level.
     let later = pieces_with (below p.depth) (named_pieces c.args.later.now c.args.last.now) f (scope_env inputs p.scope.now) level x in
     let filter = run p inputs level (named piece.tree) x in
     let front = text_of piece.before in
-    text-stops c.from_residual.result c.in_err-back.field-0.0 _ c.from_residual.ensures.1
+    stops _ c.from_residual.result c.in_err-back.field-0.0 _ c.from_residual.ensures.1
     (ends-bind c.in_err-back.field-0.0 later (on_back f front filter) (c.in_err-back.ensures inputs level))
 
 pub first_piece-returns-in_err-found : goal.first_piece-returns-in_err-found
@@ -934,71 +653,51 @@ first_piece-returns-in_err-found t c = λ inputs level.
     let front = text_of piece.before in
     let s = c.in_err-found.field-0.0 in
     let back = text_in c.in_ok-back.back in
-    text-stops c.from_residual-in_err-found.result s _ c.from_residual-in_err-found.ensures.1
+    stops _ c.from_residual-in_err-found.result s _ c.from_residual-in_err-found.ensures.1
     (ends-after s later back (on_back f front filter) (c.in_ok-back.ensures inputs level)
     (ends-bind s filter (on_inserted f front back) (c.in_err-found.ensures inputs level)))
 
 -- ---- objects
 
-pub entry-returns-in_ok-key-in-Named : goal.entry-returns-in_ok-key-in-Named
-entry-returns-in_ok-key-in-Named t c = λ inputs level.
+pub with_entry-returns-in_ok-key-in-Named : goal.with_entry-returns-in_ok-key-in-Named
+with_entry-returns-in_ok-key-in-Named t c = λ inputs level es.
     let p = c.args.self.now in
     let v = view c.args.value.now in
-    let es = named_entries c.args.later.now in
     let made = members_in c.args.made in
-    subst (λ (e : Entry). Answers c.member.result (entries_in p inputs level (more_entries e es) v made)) (sym (ap named_entry c.in-Named.is))
-    (subst (λ (s : List ℕ). Answers c.member.result (bind (run p inputs level (named c.in-Named.filter) (plain v)) (on_entry (entries_in p inputs level es v) made s))) c.in_ok-key-in-Named.ensures
-    (c.member.ensures inputs level))
+    let later : Members → Run Item = entries_in p inputs level es v in
+    subst (λ (e : Entry). Adds c.member.result later (entries_in p inputs level (more_entries e es) v made)) (sym (ap named_entry c.in-Named.is))
+    (subst (λ (s : List ℕ). Adds c.member.result later (bind (run p inputs level (named c.in-Named.filter) (plain v)) (on_entry later made s))) c.in_ok-key-in-Named.ensures
+    (c.member.ensures inputs level later))
 
 pub computed-returns : goal.computed-returns
 unfolding on_entry_key
-computed-returns t c = λ inputs level.
+computed-returns t c = λ inputs level es.
     let p = c.args.self.now in
     let v = view c.args.value.now in
-    let later : Members → Run Item = entries_in p inputs level (named_entries c.args.later.now) v in
-    let filter = run p inputs level (named c.args.filter.now) (plain v) in
-    answers-bind c.keyed.result (run p inputs level (named c.args.key.now) (plain v)) (plain (view c.in_ok-found.found)) (on_entry_key filter later (members_in c.args.made))
-    (c.in_ok-found.ensures inputs level) (c.keyed.ensures inputs level)
+    let made = members_in c.args.made in
+    let later : Members → Run Item = entries_in p inputs level es v in
+    comes-bind _ c.keyed.result (run p inputs level (named c.args.key.now) (plain v)) (plain (view c.in_ok-found.found)) (on_entry_key (run p inputs level (named c.args.filter.now) (plain v)) later made)
+    (c.in_ok-found.ensures inputs level) (c.keyed.ensures inputs level later)
 
 pub keyed-returns : goal.keyed-returns
-keyed-returns t c = λ inputs level. rw c.into_text.ensures (c.member.ensures inputs level)
+keyed-returns t c = λ inputs level later. rw c.into_text.ensures (c.member.ensures inputs level later)
 
 pub computed-returns-in_err-found : goal.computed-returns-in_err-found
-computed-returns-in_err-found t c = λ inputs level.
-    let p = c.args.self.now in
-    let v = view c.args.value.now in
-    let later : Members → Run Item = entries_in p inputs level (named_entries c.args.later.now) v in
-    let filter = run p inputs level (named c.args.filter.now) (plain v) in
-    stops c.from_residual.result c.in_err-found.field-0.0 _ c.from_residual.ensures.1
-    (ends-bind c.in_err-found.field-0.0 (run p inputs level (named c.args.key.now) (plain v)) (on_entry_key filter later (members_in c.args.made)) (c.in_err-found.ensures inputs level))
+computed-returns-in_err-found t c = λ inputs level es. fails _ c.from_residual.result c.in_err-found.field-0.0 c.args.self.now (named c.args.key.now) (view c.args.value.now) (on_entry_key (run c.args.self.now inputs level (named c.args.filter.now) (plain (view c.args.value.now))) (entries_in c.args.self.now inputs level es (view c.args.value.now)) (members_in c.args.made)) inputs level c.from_residual.ensures.1 c.in_err-found.ensures
 
 pub member-returns : goal.member-returns
 unfolding on_entry
-member-returns t c = λ inputs level.
-    let p = c.args.self.now in
-    let v = view c.args.value.now in
-    let later : Members → Run Item = entries_in p inputs level (named_entries c.args.later.now) v in
-    let filter = run p inputs level (named c.args.filter.now) (plain v) in
-    answers-bind c.entries.result filter (plain (view c.in_ok-found.found)) (on_entry later (members_in c.args.made) (text_in c.args.key.now))
-    (c.in_ok-found.ensures inputs level)
-    (subst (λ (m : Members). Answers c.entries.result (later m)) c.in_ok-longer.ensures (c.entries.ensures inputs level))
+member-returns t c = λ inputs level later.
+    bind-known (run c.args.self.now inputs level (named c.args.filter.now) (plain (view c.args.value.now))) (plain (view c.in_ok-found.found)) (on_entry later (members_in c.args.made) (text_in c.args.key.now)) (c.in_ok-found.ensures inputs level)
+    ∙ ap later (sym c.in_ok-with_member.ensures)
 
 pub member-returns-in_err-found : goal.member-returns-in_err-found
-member-returns-in_err-found t c = λ inputs level.
-    let p = c.args.self.now in
-    let v = view c.args.value.now in
-    let later : Members → Run Item = entries_in p inputs level (named_entries c.args.later.now) v in
-    let filter = run p inputs level (named c.args.filter.now) (plain v) in
-    stops c.from_residual.result c.in_err-found.field-0.0 _ c.from_residual.ensures.1
-    (ends-bind c.in_err-found.field-0.0 filter (on_entry later (members_in c.args.made) (text_in c.args.key.now)) (c.in_err-found.ensures inputs level))
+member-returns-in_err-found t c = λ inputs level later. fails _ c.from_residual.result c.in_err-found.field-0.0 c.args.self.now (named c.args.filter.now) (view c.args.value.now) (on_entry later (members_in c.args.made) (text_in c.args.key.now)) inputs level c.from_residual.ensures.1 c.in_err-found.ensures
 
 -- ---- folds
 
-pub change_reduce-returns-in-Err-clause-keeps : goal.change_reduce-returns-in-Err-clause-keeps
-change_reduce-returns-in-Err-clause-keeps t c = leaves_same c.in-Err.stop (view c.args.value.now)
-
-pub fold-returns-in-Some : goal.fold-returns-in-Some
-fold-returns-in-Some t c = λ inputs level.
+pub fold-returns-in-Some-clause-runs : goal.fold-returns-in-Some-clause-runs
+fold-returns-in-Some-clause-runs t c = λ inputs level.
     let p = c.args.self.now in
     let v = view c.args.value.now in
     let n = text_of c.args.name.now in
@@ -1011,8 +710,11 @@ fold-returns-in-Some t c = λ inputs level.
     fold_ends (below p.depth) level n e (meaning p.depth u) (source (plain v)) held (view c.args.state) result c.in_ok-keep.ensures
     (subst (λ (x : Item). folded p inputs level n u held (then_run (bind (source x) one) none) ≡ result) input (c.in-Ok.ensures inputs level none ∙ ap one c.in-Some.ensures))
 
-pub fold-returns : goal.fold-returns
-fold-returns t c = λ inputs level.
+pub fold-returns-clause-keeps : goal.fold-returns-clause-keeps
+fold-returns-clause-keeps t c = leaves_same c.in-Err.stop (view c.args.value.now)
+
+pub fold-returns-clause-runs : goal.fold-returns-clause-runs
+fold-returns-clause-runs t c = λ inputs level.
     let p = c.args.self.now in
     let v = view c.args.value.now in
     let n = text_of c.args.name.now in
@@ -1027,54 +729,55 @@ fold-returns t c = λ inputs level.
     (folded p inputs level n u held (then_run (bind (source (plain v)) one) none)) c.in_ok-keep.ensures refl))
     (subst (λ (x : Item). Ends s (folded p inputs level n u held (then_run (bind (source x) one) none))) input (c.in-Err.ensures inputs level none))
 
-pub gather_source-returns : goal.gather_source-returns
-gather_source-returns t c =
-    gathers_all c.args.self.now (named c.args.source.now) (view c.args.value.now) c.args.most c.gather.result c.args.into.now.items c.gather.new.into.items (item_of c.plain-input.result)
+pub collect-returns : goal.collect-returns
+collect-returns t c =
+    gathers_all c.args.self.now (named c.args.tree.now) (view c.args.value.now) c.args.most c.gather.result c.args.into.now.items c.gather.new.into.items (item_of c.plain-input.result)
     (c.plain-input.ensures ∙ ap plain c.in_ok-copy.ensures) c.requires c.gather.ensures
 
 pub change_fold-returns-in-Some-clause-runs : goal.change_fold-returns-in-Some-clause-runs
-change_fold-returns-in-Some-clause-runs t c = λ inputs level.
+change_fold-returns-in-Some-clause-runs t c = λ is inputs level.
     let p = c.args.self.now in
-    let v = view c.args.value.now in
+    let x : Item = plain (view c.args.value.now) in
     let n = text_of c.args.name.now in
-    let r = run p inputs level (named c.args.source.now) (plain v) in
+    let r = run p inputs level (named c.args.source.now) x in
+    let sources = bind (run p inputs level (named c.args.source.now) x) (on_source (bindings_with (below p.depth) (whole (text_of c.args.name.now)) level) (scope_env inputs p.scope.now)) in
     let single = c.in-Some.single.now in
     let same : gathered r ≡ one (plain (array (items_of (view single ∷ [])))) =
     c.in-Ok.ensures inputs level ∙ ap (λ (xs : List Val). one (plain (array (items_of (map view xs))))) (sym c.as_slice.ensures.value ∙ c.in-Some.ensures) in
-    subst (Changed c.step.result (view c.step.new.state))
-    (sym (single_fold (below p.depth) level n (scope_env inputs p.scope.now) (meaning p.depth (named c.args.update.now)) r.items r.ending (view single) (plain v) same))
-    (goes-changed c.step.result (view c.step.new.state) _ (c.step.ensures.runs inputs level one))
+    subst (λ (s : Tree). Changed c.step.result (view c.step.new.state) (run p inputs level (reduce (named c.args.source.now) (whole n) s (named c.args.update.now)) x)) (sym is)
+    (comes-bind _ c.step.result (one x) x (reduced (on_state (meaning p.depth (named c.args.update.now)) level) sources.items sources.ending) refl
+    (subst (Changed c.step.result (view c.step.new.state))
+    (sym (single_fold (below p.depth) level n (scope_env inputs p.scope.now) (meaning p.depth (named c.args.update.now)) r.items r.ending (view single) x same))
+    (c.step.ensures.runs inputs level one)))
 
-pub change_reduce-returns-in-Whole-clause-runs : goal.change_reduce-returns-in-Whole-clause-runs
-change_reduce-returns-in-Whole-clause-runs t c = λ inputs level.
-    let p = c.args.self.now in
-    let x : Item = plain (view c.args.value.now) in
-    let sources = bind (run p inputs level (named c.args.source.now) x) (on_source (bindings_with (below p.depth) (whole (text_of c.in-Whole.name)) level) (scope_env inputs p.scope.now)) in
-    subst (λ q. Changed c.change_fold.result (view c.change_fold.new.value) (run p inputs level (reduce (named c.args.source.now) q (named c.args.start.now) (named c.args.update.now)) x))
-    (sym (ap named_as_pattern c.in-Whole.is ∙ named-Whole c.in-Whole.name))
-    (subst (λ s. Changed c.change_fold.result (view c.change_fold.new.value) (run p inputs level (reduce (named c.args.source.now) (whole (text_of c.in-Whole.name)) s (named c.args.update.now)) x))
-    (sym (ap named c.in-Identity.is ∙ named-Identity))
-    (changed-bind c.change_fold.result (view c.change_fold.new.value) (one x) x (reduced (on_state (meaning p.depth (named c.args.update.now)) level) sources.items sources.ending)
-    refl (c.change_fold.ensures.runs inputs level)))
-
-pub reduce-returns-in_ok-state-in-Whole : goal.reduce-returns-in_ok-state-in-Whole
-reduce-returns-in_ok-state-in-Whole t c = λ inputs level.
+pub change_from-returns-clause-runs : goal.change_from-returns-clause-runs
+change_from-returns-clause-runs t c = λ inputs level.
     let p = c.args.self.now in
     let x = plain (view c.args.value.now) in
-    let sources = bind (run p inputs level (named c.args.source.now) x) (on_source (bindings_with (below p.depth) (whole (text_of c.in-Whole.name)) level) (scope_env inputs p.scope.now)) in
-    subst (λ q. Answers c.fold.result (run p inputs level (reduce (named c.args.source.now) q (named c.args.start.now) (named c.args.update.now)) x))
-    (sym (ap named_as_pattern c.in-Whole.is ∙ named-Whole c.in-Whole.name))
-    (answers-bind c.fold.result (run p inputs level (named c.args.start.now) x) (plain (view c.in_ok-state-in-Whole.state)) (reduced (on_state (meaning p.depth (named c.args.update.now)) level) sources.items sources.ending)
-    (c.in_ok-state-in-Whole.ensures inputs level) (c.fold.ensures inputs level))
+    let sources = bind (run p inputs level (named c.args.source.now) x) (on_source (bindings_with (below p.depth) (whole (text_of c.args.name.now)) level) (scope_env inputs p.scope.now)) in
+    comes-bind _ c.fold.result (run p inputs level (named c.args.start.now) x) (plain (view c.in_ok-state.state))
+    (reduced (on_state (meaning p.depth (named c.args.update.now)) level) sources.items sources.ending) (c.in_ok-state.ensures inputs level) (c.fold.ensures.runs inputs level)
 
-pub reduce-returns-in_err-state-in-Whole : goal.reduce-returns-in_err-state-in-Whole
-reduce-returns-in_err-state-in-Whole t c = λ inputs level.
+pub change_from-returns-in_err-state-clause-runs : goal.change_from-returns-in_err-state-clause-runs
+change_from-returns-in_err-state-clause-runs t c = λ inputs level.
     let p = c.args.self.now in
     let x = plain (view c.args.value.now) in
-    let sources = bind (run p inputs level (named c.args.source.now) x) (on_source (bindings_with (below p.depth) (named_as_pattern c.args.pattern.now) level) (scope_env inputs p.scope.now)) in
-    let s = c.in_err-state-in-Whole.field-0.0 in
-    stops c.from_residual.result s _ c.from_residual.ensures.1
-    (ends-bind s (run p inputs level (named c.args.start.now) x) (reduced (on_state (meaning p.depth (named c.args.update.now)) level) sources.items sources.ending) (c.in_err-state-in-Whole.ensures inputs level))
+    let sources = bind (run p inputs level (named c.args.source.now) x) (on_source (bindings_with (below p.depth) (whole (text_of c.args.name.now)) level) (scope_env inputs p.scope.now)) in
+    stops _ c.from_residual.result c.in_err-state.field-0.0 _ c.from_residual.ensures.1
+    (ends-bind c.in_err-state.field-0.0 (run p inputs level (named c.args.start.now) x) (reduced (on_state (meaning p.depth (named c.args.update.now)) level) sources.items sources.ending) (c.in_err-state.ensures inputs level))
+
+pub change_from-returns-in_err-state-clause-keeps : goal.change_from-returns-in_err-state-clause-keeps
+change_from-returns-in_err-state-clause-keeps t c = keeps-stops c.from_residual.result c.in_err-state.field-0.0 (view c.args.value.now) c.from_residual.ensures.1
+
+pub change_reduce-returns-in-Identity-clause-runs : goal.change_reduce-returns-in-Identity-clause-runs
+change_reduce-returns-in-Identity-clause-runs t c =
+    subst (λ q. ChangesTo c.args.self.now (reduce (named c.args.source.now) q (named c.args.start.now) (named c.args.update.now)) (view c.args.value.now) (view c.change_fold.new.value) c.change_fold.result)
+    (sym (ap named_as_pattern c.in-Whole.is ∙ named-Whole c.in-Whole.name)) (c.change_fold.ensures.runs (ap named c.in-Identity.is ∙ named-Identity))
+
+pub change_reduce-returns-in_default-start-clause-runs : goal.change_reduce-returns-in_default-start-clause-runs
+change_reduce-returns-in_default-start-clause-runs t c =
+    subst (λ q. ChangesTo c.args.self.now (reduce (named c.args.source.now) q (named c.args.start.now) (named c.args.update.now)) (view c.args.value.now) (view c.change_from.new.value) c.change_from.result)
+    (sym (ap named_as_pattern c.in-Whole.is ∙ named-Whole c.in-Whole.name)) c.change_from.ensures.runs
 
 pub turn-returns-in_ok-keep-in-Ok : goal.turn-returns-in_ok-keep-in-Ok
 turn-returns-in_ok-keep-in-Ok t c = λ inputs level.
@@ -1099,32 +802,31 @@ pub change_first-returns-in_default-clause-runs : goal.change_first-returns-in_d
 change_first-returns-in_default-clause-runs t c = λ inputs level.
     changed-first c.change.result (view c.change.new.value) (run c.args.self.now inputs level (named c.args.tree.now) (plain (view c.args.value.now))) (c.change.ensures.runs inputs level)
 
-pub change_first-returns-in-Err-clause-keeps : goal.change_first-returns-in-Err-clause-keeps
-change_first-returns-in-Err-clause-keeps t c = leaves_same c.in-Err.stop (view c.args.value.now)
+pub change_first_of_two-returns-in-Ok-clause-runs : goal.change_first_of_two-returns-in-Ok-clause-runs
+change_first_of_two-returns-in-Ok-clause-runs t c = λ inputs level.
+    let go : Value → Tree → Run Item = λ w u. run c.args.self.now inputs level u (plain w) in
+    let l = named c.args.left.now in
+    let r = go (view c.args.value.now) (named c.args.right.now) in
+    first-then (go (view c.args.value.now) l) r (one (plain (view c.change_first.new.value)))
+    (subst (λ (w : Value). first_alone (go w l) ≡ one (plain (view c.change_first.new.value))) c.in_ok-output.ensures (c.in-Ok.ensures.runs inputs level))
 
-pub get_first-returns-in_default : goal.get_first-returns-in_default
-get_first-returns-in_default t c = λ inputs level.
-    answers-first c.get.result (run c.args.self.now inputs level (named c.args.tree.now) (plain (view c.args.value.now))) (c.get.ensures inputs level)
+pub change_first_of_two-returns-in-Err-Nothing-clause-runs : goal.change_first_of_two-returns-in-Err-Nothing-clause-runs
+change_first_of_two-returns-in-Err-Nothing-clause-runs t c = λ inputs level.
+    let go : Value → Tree → Run Item = λ w u. run c.args.self.now inputs level u (plain w) in
+    let l = named c.args.left.now in
+    let r = go (view c.args.value.now) (named c.args.right.now) in
+    subst (Changed c.change_first-in-Err-Nothing.result (view c.change_first-in-Err-Nothing.new.value))
+    (sym (first-then (go (view c.args.value.now) l) r none
+    (subst (λ (w : Value). first_alone (go w l) ≡ none) c.in_ok-output.ensures ((rw c.in-Err-Nothing.field-0-is at c.in-Err-Nothing.ensures.runs) inputs level))))
+    (c.change_first-in-Err-Nothing.ensures.runs inputs level)
 
-pub first_of_two-returns-in-Ok : goal.first_of_two-returns-in-Ok
-first_of_two-returns-in-Ok t c = λ inputs level.
-    let v = plain (view c.args.value.now) in
-    let go : Tree → Run Item = λ u. run c.args.self.now inputs level u v in
-    first-then (go (named c.args.left.now)) (go (named c.args.right.now)) (one (plain (view c.in-Ok.output))) (c.in-Ok.ensures inputs level)
-
-pub first_of_two-returns-in-Err-Nothing : goal.first_of_two-returns-in-Err-Nothing
-first_of_two-returns-in-Err-Nothing t c = λ inputs level.
-    let v = plain (view c.args.value.now) in
-    let go : Tree → Run Item = λ u. run c.args.self.now inputs level u v in
-    subst (Answers c.get_first-in-Err-Nothing.result)
-    (sym (first-then (go (named c.args.left.now)) (go (named c.args.right.now)) none ((rw c.in-Err-Nothing.field-0-is at c.in-Err-Nothing.ensures) inputs level)))
-    (c.get_first-in-Err-Nothing.ensures inputs level)
-
-pub first_of_two-returns-in-Err-Raised : goal.first_of_two-returns-in-Err-Raised
-first_of_two-returns-in-Err-Raised t c = λ inputs level.
-    let v = plain (view c.args.value.now) in
-    let go : Tree → Run Item = λ u. run c.args.self.now inputs level u v in
-    first-then (go (named c.args.left.now)) (go (named c.args.right.now)) (fail (view c.in-Err-Raised.error)) ((rw c.in-Err-Raised.field-0-is at c.in-Err-Raised.ensures) inputs level)
+pub change_first_of_two-returns-in-Err-Raised-clause-runs : goal.change_first_of_two-returns-in-Err-Raised-clause-runs
+change_first_of_two-returns-in-Err-Raised-clause-runs t c = λ inputs level.
+    let go : Value → Tree → Run Item = λ w u. run c.args.self.now inputs level u (plain w) in
+    let l = named c.args.left.now in
+    let r = go (view c.args.value.now) (named c.args.right.now) in
+    first-then (go (view c.args.value.now) l) r (fail (view c.in-Err-Raised.error))
+    (subst (λ (w : Value). first_alone (go w l) ≡ fail (view c.in-Err-Raised.error)) c.in_ok-output.ensures ((rw c.in-Err-Raised.field-0-is at c.in-Err-Raised.ensures.runs) inputs level))
 
 -- ---- updates
 
@@ -1156,7 +858,7 @@ change_parts-returns-in-Some-clause-runs t c = λ inputs level.
     let r = path_run p inputs level (named c.args.paths.now) v in
     let g = part_run p inputs level (named c.args.update.now) in
     let all : gathered r ≡ one (plain (array (items_of (view c.in-Some.path.now ∷ [])))) =
-    c.in_ok-found.ensures.found inputs level ∙ ap (λ (xs : List Val). one (plain (array (items_of (map view xs))))) (sym c.as_slice.ensures.value ∙ c.in-Some.ensures) in
+    c.in-Ok.ensures inputs level ∙ ap (λ (xs : List Val). one (plain (array (items_of (map view xs))))) (sym c.as_slice.ensures.value ∙ c.in-Some.ensures) in
     subst (Changed c.change_one.result (view c.change_one.new.value)) (sym (known_paths level g r (view c.in-Some.path.now ∷ []) v all)) (c.change_one.ensures.runs inputs level)
 
 pub change_parts-returns-clause-runs : goal.change_parts-returns-clause-runs
@@ -1165,18 +867,18 @@ change_parts-returns-clause-runs t c = λ inputs level.
     let v = view c.args.value.now in
     let r = path_run p inputs level (named c.args.paths.now) v in
     let g = part_run p inputs level (named c.args.update.now) in
-    let all : gathered r ≡ one (plain (array (items_of (map view c.as_slice-in_default.result.now)))) =
-    c.in_ok-found.ensures.found inputs level ∙ ap (λ (xs : List Val). one (plain (array (items_of (map view xs))))) (sym c.as_slice-in_default.ensures.value) in
-    subst (Changed c.change_copied.result (view c.change_copied.new.value)) (sym (known_paths level g r (map view c.as_slice-in_default.result.now) v all)) (c.change_copied.ensures.runs inputs level)
+    let all : gathered r ≡ one (plain (array (items_of (map view c.as_slice-in_default-single_of.result.now)))) =
+    c.in-Ok.ensures inputs level ∙ ap (λ (xs : List Val). one (plain (array (items_of (map view xs))))) (sym c.as_slice-in_default-single_of.ensures.value) in
+    subst (Changed c.change_copied.result (view c.change_copied.new.value)) (sym (known_paths level g r (map view c.as_slice-in_default-single_of.result.now) v all)) (c.change_copied.ensures.runs inputs level)
 
-pub paths_of-returns-in-Ok-clause-found : goal.paths_of-returns-in-Ok-clause-found
-paths_of-returns-in-Ok-clause-found t c = λ inputs level.
+pub paths_of-returns : goal.paths_of-returns
+paths_of-returns t c = λ inputs level.
     let go : Item → Run Item = run c.args.self.now inputs level (named c.args.tree.now) in
     let r : Run Item = path_run c.args.self.now inputs level (named c.args.tree.now) (view c.args.value.now) in
     gathered_list inputs level 1048576 (tt {0}) c.new-paths.result.items c.gather.new.into.items r c.new-paths.ensures.items
     (subst (Gathers (made inputs level (rest.End 1048576)) (Ok (tt {0})) c.new-paths.result.items c.gather.new.into.items)
     (ap (λ (x : Item). bind (go x) (λ y. bind (path_item y) one)) c.in_ok-start.ensures ∙ sym (paths-rest (go (located (view c.args.value.now) [])) one))
-    (c.in-Ok.ensures inputs level))
+    (c.in_ok-gather.ensures inputs level))
 
 pub change_one-returns-in-Ok-clause-runs : goal.change_one-returns-in-Ok-clause-runs
 change_one-returns-in-Ok-clause-runs t c = λ inputs level.
