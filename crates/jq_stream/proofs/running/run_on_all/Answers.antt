@@ -5,15 +5,15 @@ use Rattle.jq_devices.specs.Watched.{device_of}
 use Rattle.jq_filters.specs.Outcomes.{on_all}
 use Rattle.jq_filters.specs.Runner.{job_of}
 use Rattle.jq_stream.specs.Failures.{output_failures}
-use Rattle.jq_stream.specs.Streams.{streams_of}
 use Rattle.jq_stream.proofs.Blaming.{report_failed, write_failed}
 use Rattle.jq_stream.proofs.Going.{not_read, stopped_by, unbegun}
 use Rattle.jq_stream.proofs.Once.{all_stopped, all_part_stopped, all_reported, all_fault_stopped}
+use Rattle.jq_stream.proofs.Opened.{streams_by}
 use Rattle.jq_stream.proofs.running.run_on_all.Goals as goal
 
 pub returns-in-Ok-Some-clause-ran : goal.returns-in-Ok-Some-clause-ran
 returns-in-Ok-Some-clause-ran g c =
-    let old = streams_of g.R.Read.remaining g.O.Write.contents g.E.Write.contents c.args.input.now c.args.output.now c.args.errors.now in
+    let old = streams_by g.R.Read.remaining c.streams.inside.input c.streams.inside.outputs.bytes in
     let gathered = rw c.in-Ok-Some.field-0-is at c.in-Ok-Some.ensures.gathered in
     all_reported c.report_fault.result c.args.settings c.args.runner.now (map view c.gather.new.values.items) c.in-Ok-Some.fault old _ (g.R.Read.remaining (device_of c.gather.new.input)) gathered
     c.report_fault.ensures.status c.report_fault.ensures.ok
@@ -21,7 +21,7 @@ returns-in-Ok-Some-clause-ran g c =
 pub returns-in-Ok-Some-clause-stopped : goal.returns-in-Ok-Some-clause-stopped
 returns-in-Ok-Some-clause-stopped g c =
     let job = job_of c.args.settings c.args.runner.now in
-    let old = streams_of g.R.Read.remaining g.O.Write.contents g.E.Write.contents c.args.input.now c.args.output.now c.args.errors.now in
+    let old = streams_by g.R.Read.remaining c.streams.inside.input c.streams.inside.outputs.bytes in
     let new = streams_of g.R.Read.remaining g.O.Write.contents g.E.Write.contents c.gather.new.input c.args.output.now c.report_fault.new.errors in
     let gathered = rw c.in-Ok-Some.field-0-is at c.in-Ok-Some.ensures.gathered in
     stopped_by c.report_fault.result on_all job old new c.report_fault.ensures.fault c.report_fault.ensures.err
@@ -30,8 +30,8 @@ returns-in-Ok-Some-clause-stopped g c =
 pub returns-in-Ok-None-clause-stopped : goal.returns-in-Ok-None-clause-stopped
 returns-in-Ok-None-clause-stopped g c =
     let job = job_of c.args.settings c.args.runner.now in
-    let old = streams_of g.R.Read.remaining g.O.Write.contents g.E.Write.contents c.args.input.now c.args.output.now c.args.errors.now in
-    let new = streams_of g.R.Read.remaining g.O.Write.contents g.E.Write.contents c.gather.new.input c.run_on_array.new.output c.run_on_array.new.errors in
+    let old = streams_by g.R.Read.remaining c.streams.inside.input c.streams.inside.outputs.bytes in
+    let new = streams_by g.R.Read.remaining c.gather.new.input c.run_on_array.new.outputs.bytes in
     let gathered = rw c.in-Ok-None.field-0-is at c.in-Ok-None.ensures.gathered in
     stopped_by c.run_on_array.result on_all job old new c.run_on_array.ensures.fault c.run_on_array.ensures.err
     (all_stopped c.args.settings c.args.runner.now (map view c.gather.new.values.items) old new (g.R.Read.remaining (device_of c.gather.new.input)) gathered)
@@ -39,8 +39,8 @@ returns-in-Ok-None-clause-stopped g c =
 pub returns-in_err-run_on_array-in-Err-Read-clause-stopped : goal.returns-in_err-run_on_array-in-Err-Read-clause-stopped
 returns-in_err-run_on_array-in-Err-Read-clause-stopped g c =
     let job = job_of c.args.settings c.args.runner.now in
-    let old = streams_of g.R.Read.remaining g.O.Write.contents g.E.Write.contents c.args.input.now c.args.output.now c.args.errors.now in
-    let new = streams_of g.R.Read.remaining g.O.Write.contents g.E.Write.contents c.gather.new.input c.run_on_array-in-Err-Read.new.output c.run_on_array-in-Err-Read.new.errors in
+    let old = streams_by g.R.Read.remaining c.streams.inside.input c.streams.inside.outputs.bytes in
+    let new = streams_by g.R.Read.remaining c.gather.new.input c.run_on_array-in-Err-Read.new.outputs.bytes in
     let gathered = rw c.in-Err-Read.field-0-is at c.in-Err-Read.ensures.gathered in
     let fault = c.in_err-run_on_array-in-Err-Read.field-0.0 in
     error_returned c.from_residual.result fault _ c.from_residual.ensures.1
@@ -50,7 +50,7 @@ returns-in_err-run_on_array-in-Err-Read-clause-stopped g c =
 pub returns-in-Err-clause-stopped : goal.returns-in-Err-clause-stopped
 returns-in-Err-clause-stopped g c =
     let job = job_of c.args.settings c.args.runner.now in
-    let old = streams_of g.R.Read.remaining g.O.Write.contents g.E.Write.contents c.args.input.now c.args.output.now c.args.errors.now in
+    let old = streams_by g.R.Read.remaining c.streams.inside.input c.streams.inside.outputs.bytes in
     not_read c.in-Err.fault on_all job old _ (search rules) (unbegun on_all job old (g.R.Read.remaining (device_of c.gather.new.input)))
 
 pub returns-in-Ok-Some-clause-read_failed : goal.returns-in-Ok-Some-clause-read_failed

@@ -5,16 +5,16 @@ use Rattle.jq_devices.proofs.shared.Writing.{first_result}
 use Rattle.jq_devices.specs.declared.faults.StreamFault.TheVariants.{NoMemory}
 use Rattle.jq_filters.specs.Outcomes.{on_each}
 use Rattle.jq_filters.specs.Runner.{job_of}
-use Rattle.jq_stream.specs.Streams.{streams_of}
 use Rattle.jq_stream.specs.Failures.{output_failures}
 use Rattle.jq_stream.proofs.Blaming.{after_none, never_read, report_failed, write_failed}
 use Rattle.jq_stream.proofs.Giving.{nothing_given, all_unended}
 use Rattle.jq_stream.proofs.Going.{going_begun, going_on, each_ended, each_halted, each_reported, line_stopped, piece_stopped, answers_stopped, unbegun, one_pass, one_pass_answered, one_pass_begun, one_pass_unfed, one_pass_reported}
+use Rattle.jq_stream.proofs.Opened.{streams_by}
 use Rattle.jq_stream.proofs.running.run_on_each.Goals as goal
 
 pub returns-in_err-piece-clause-stopped : goal.returns-in_err-piece-clause-stopped
 returns-in_err-piece-clause-stopped g c =
-    let old = streams_of g.R.Read.remaining g.O.Write.contents g.E.Write.contents c.args.input.now c.args.output.now c.args.errors.now in
+    let old = streams_by g.R.Read.remaining c.streams.inside.input c.streams.inside.outputs.bytes in
     error_returned c.from_residual.result NoMemory _ c.from_residual.ensures.1 (unbegun on_each (job_of c.args.settings c.args.runner.now) old old.remaining)
 
 pub loop-piece-init : goal.loop-piece-init
@@ -43,7 +43,7 @@ returns-in_err-reached-clause-stopped g c =
     let job = job_of c.args.settings c.args.runner.now in
     let read = c.in_ok-ended.ensures.fed.given before.0 before.1 before.2.has_given in
     let part = c.in_err-reached.ensures.stopped before.0 (before.1 ++ read.0) read.2 in
-    let new = streams_of g.R.Read.remaining g.O.Write.contents g.E.Write.contents c.feed_next.new.input c.answer_ready.new.output c.answer_ready.new.errors in
+    let new = streams_by g.R.Read.remaining c.feed_next.new.input c.answer_ready.new.outputs.bytes in
     error_returned c.from_residual-in_err-reached.result c.in_err-reached.field-0.0 _ c.from_residual-in_err-reached.ensures.1
     (answers_stopped c.in_err-reached.field-0.0 job _ _ new _ c.answer_ready.new.cutter _ before.0 part.0 before.1 read.0 before.2 read.1 part.1 part.2 (part.3, part.4)
     (λ t. c.in_ok-ended.ensures.fed.at_end (sym c.in_ok-ended.ensures.fed.finished ∙ sym c.in_err-reached.ensures.unfed.finished ∙ t)) (never_read c.in_err-reached.field-0.0 _ _ c.in_err-reached.ensures.blamed))
@@ -55,7 +55,7 @@ returns-in-Fault-clause-ran g c =
     let read = c.in_ok-ended.ensures.fed.given before.0 before.1 before.2.has_given in
     let ready = c.in_ok-reached.ensures.answered before.0 (before.1 ++ read.0) read.2 in
     let reached = rw c.in-Fault.is at ready.1.up_to in
-    let new = streams_of g.R.Read.remaining g.O.Write.contents g.E.Write.contents c.feed_next.new.input c.answer_ready.new.output c.answer_ready.new.errors in
+    let new = streams_by g.R.Read.remaining c.feed_next.new.input c.answer_ready.new.outputs.bytes in
     let on = going_on job _ _ new _ c.answer_ready.new.cutter _ _ before.0 ready.0 before.1 read.0 before.2 read.1 ready.1.has_given reached.1 ready.2 c.in_ok-reached.ensures.empty in
     each_reported c.report_fault.result job _ new _ _ _ _ _ c.in-Fault.fault on reached.0
     (λ t. c.in_ok-ended.ensures.fed.at_end (sym c.in_ok-ended.ensures.fed.finished ∙ sym c.in_ok-reached.ensures.unfed.finished ∙ t)) c.report_fault.ensures.status c.report_fault.ensures.ok
@@ -67,7 +67,7 @@ returns-in-Fault-clause-stopped g c =
     let read = c.in_ok-ended.ensures.fed.given before.0 before.1 before.2.has_given in
     let ready = c.in_ok-reached.ensures.answered before.0 (before.1 ++ read.0) read.2 in
     let reached = rw c.in-Fault.is at ready.1.up_to in
-    let new = streams_of g.R.Read.remaining g.O.Write.contents g.E.Write.contents c.feed_next.new.input c.answer_ready.new.output c.answer_ready.new.errors in
+    let new = streams_by g.R.Read.remaining c.feed_next.new.input c.answer_ready.new.outputs.bytes in
     let on = going_on job _ _ new _ c.answer_ready.new.cutter _ _ before.0 ready.0 before.1 read.0 before.2 read.1 ready.1.has_given reached.1 ready.2 c.in_ok-reached.ensures.empty in
     line_stopped c.report_fault.result job _ new _ _ _ _ _ c.in-Fault.fault on reached.0
     (λ t. c.in_ok-ended.ensures.fed.at_end (sym c.in_ok-ended.ensures.fed.finished ∙ sym c.in_ok-reached.ensures.unfed.finished ∙ t)) c.report_fault.ensures.err c.report_fault.ensures.fault
@@ -79,7 +79,7 @@ returns-then-ended-clause-ran g c =
     let read = c.in_ok-ended.ensures.fed.given before.0 before.1 before.2.has_given in
     let ready = c.in_ok-reached.ensures.answered before.0 (before.1 ++ read.0) read.2 in
     let reached = rw c.in-All.is at ready.1.up_to in
-    let new = streams_of g.R.Read.remaining g.O.Write.contents g.E.Write.contents c.feed_next.new.input c.answer_ready.new.output c.answer_ready.new.errors in
+    let new = streams_by g.R.Read.remaining c.feed_next.new.input c.answer_ready.new.outputs.bytes in
     let on = going_on job _ _ new _ c.answer_ready.new.cutter _ _ before.0 ready.0 before.1 read.0 before.2 read.1 ready.1.has_given reached.1 ready.2 c.in_ok-reached.ensures.empty in
     each_ended job _ new _ _ _ _ c.status.result on (c.in_ok-ended.ensures.fed.at_end c.if-ended.true)
     (c.in_ok-reached.ensures.unfed.finished ∙ c.in_ok-ended.ensures.fed.finished ∙ c.if-ended.true) reached.0 c.status.ensures
@@ -91,7 +91,7 @@ loop-piece-preserved g c =
     let read = c.in_ok-ended.ensures.fed.given before.0 before.1 before.2.has_given in
     let ready = c.in_ok-reached.ensures.answered before.0 (before.1 ++ read.0) read.2 in
     let reached = rw c.in-All.is at ready.1.up_to in
-    let new = streams_of g.R.Read.remaining g.O.Write.contents g.E.Write.contents c.feed_next.new.input c.answer_ready.new.output c.answer_ready.new.errors in
+    let new = streams_by g.R.Read.remaining c.feed_next.new.input c.answer_ready.new.outputs.bytes in
     let on = going_on job _ _ new _ c.answer_ready.new.cutter _ _ before.0 ready.0 before.1 read.0 before.2 read.1 ready.1.has_given reached.1 ready.2 c.in_ok-reached.ensures.empty in
     let unended = c.in_ok-reached.ensures.unfed.finished ∙ c.in_ok-ended.ensures.fed.finished ∙ c.if-ended.false in
     let all = all_unended _ _ _ unended reached.0 in
@@ -113,7 +113,7 @@ loop-piece-preserved g c =
 
 pub returns-in_err-piece-clause-one_pass : goal.returns-in_err-piece-clause-one_pass
 returns-in_err-piece-clause-one_pass g c =
-    one_pass_begun (job_of c.args.settings c.args.runner.now) (streams_of g.R.Read.remaining g.O.Write.contents g.E.Write.contents c.args.input.now c.args.output.now c.args.errors.now)
+    one_pass_begun (job_of c.args.settings c.args.runner.now) (streams_by g.R.Read.remaining c.streams.inside.input c.streams.inside.outputs.bytes)
 
 pub returns-in_err-ended-clause-one_pass : goal.returns-in_err-ended-clause-one_pass
 returns-in_err-ended-clause-one_pass g c =
@@ -143,7 +143,7 @@ returns-in-Fault-clause-one_pass g c =
     let read = c.in_ok-ended.ensures.fed.given before.0 before.1 before.2.has_given in
     let ready = c.in_ok-reached.ensures.answered before.0 (before.1 ++ read.0) read.2 in
     let reached = rw c.in-Fault.is at ready.1.up_to in
-    let new = streams_of g.R.Read.remaining g.O.Write.contents g.E.Write.contents c.feed_next.new.input c.answer_ready.new.output c.answer_ready.new.errors in
+    let new = streams_by g.R.Read.remaining c.feed_next.new.input c.answer_ready.new.outputs.bytes in
     let len = c.deref_mut.ensures.len in
     let room = c.loop-piece.invariant.room in
     let small : length read.0 ≤ 65536 = omega (arith, read.3) in
@@ -179,7 +179,7 @@ returns-in-Halt-clause-ran g c =
     let read = c.in_ok-ended.ensures.fed.given before.0 before.1 before.2.has_given in
     let ready = c.in_ok-reached.ensures.answered before.0 (before.1 ++ read.0) read.2 in
     let halts = rw c.in-Halt.is at ready.1.up_to in
-    let new = streams_of g.R.Read.remaining g.O.Write.contents g.E.Write.contents c.feed_next.new.input c.answer_ready.new.output c.answer_ready.new.errors in
+    let new = streams_by g.R.Read.remaining c.feed_next.new.input c.answer_ready.new.outputs.bytes in
     each_halted job _ _ new _ c.answer_ready.new.cutter _ _ before.0 ready.0 before.1 read.0 c.in-Halt.status before.2 read.1 ready.1.has_given halts ready.2 c.in_ok-reached.ensures.empty
     (λ t. c.in_ok-ended.ensures.fed.at_end (sym c.in_ok-ended.ensures.fed.finished ∙ sym c.in_ok-reached.ensures.unfed.finished ∙ t))
 
