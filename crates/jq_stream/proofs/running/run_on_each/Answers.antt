@@ -49,7 +49,6 @@ returns-in_err-reached-clause-stopped g c =
 
 pub returns-in-Fault-clause-ran : goal.returns-in-Fault-clause-ran
 returns-in-Fault-clause-ran g c =
-    let input = ap (λ s. s.input) c.streams-inside.view_is in
     let outputs = ap (λ s. s.outputs) c.streams-inside.view_is in
     let before = c.loop-piece.invariant.going in
     let job = job_of c.args.settings c.args.runner.now in
@@ -58,8 +57,8 @@ returns-in-Fault-clause-ran g c =
     let reached = rw c.in-Fault.is at ready.1.up_to in
     let new = streams_by g.R.Read.remaining c.feed_next.new.input c.answer_ready.new.outputs.bytes in
     let on = going_on job _ _ new _ c.answer_ready.new.cutter _ _ before.0 ready.0 before.1 read.0 before.2 read.1 ready.1.has_given reached.1 ready.2 c.in_ok-reached.ensures.empty in
-    rw input (each_reported c.report_fault.result job _ _ _ _ _ _ _ c.in-Fault.fault (rw (← outputs) at on) reached.0
-    (λ t. c.in_ok-ended.ensures.fed.at_end (sym c.in_ok-ended.ensures.fed.finished ∙ sym c.in_ok-reached.ensures.unfed.finished ∙ t)) c.report_fault.ensures.status c.report_fault.ensures.ok)
+    each_reported c.report_fault.result job _ _ _ _ _ _ _ c.in-Fault.fault (rw (← outputs) at on) reached.0
+    (λ t. c.in_ok-ended.ensures.fed.at_end (sym c.in_ok-ended.ensures.fed.finished ∙ sym c.in_ok-reached.ensures.unfed.finished ∙ t)) c.report_fault.ensures.status c.report_fault.ensures.ok
 
 pub returns-in-Fault-clause-stopped : goal.returns-in-Fault-clause-stopped
 returns-in-Fault-clause-stopped g c =

@@ -12,10 +12,12 @@ use Rattle.jq_stream.proofs.running.run_stream.Goals as goal
 
 pub returns-in-OnNull-false-clause-ran : goal.returns-in-OnNull-false-clause-ran
 returns-in-OnNull-false-clause-ran g c =
+    let old = streams_by g.R.Read.remaining c.streams.inside.input c.streams.inside.outputs.bytes in
+    let new = streams_by g.R.Read.remaining c.streams.inside.input c.run_with.new.outputs.bytes in
     let reads : c.in-OnNull-false.reads ≡ false = search rules in
     let mode : mode_of c.args.settings.mode ≡ on_null false = ap mode_of c.in-OnNull-false.is ∙ ap on_null reads in
     rw (← c.streams.view_is) (IfOk-weaker c.run_with.result _ _
-    (λ status ran. null_unread c.args.settings c.args.runner.now (inputs_of c.no_inputs-inputs.result) (mode_of c.args.settings.mode) _ _ status mode c.no_inputs-inputs.ensures ran)
+    (λ status ran. null_unread c.args.settings c.args.runner.now (inputs_of c.no_inputs-inputs.result) (mode_of c.args.settings.mode) old new status mode c.no_inputs-inputs.ensures ran)
     c.run_with.ensures.ok)
 
 pub returns-in-OnNull-false-clause-stopped : goal.returns-in-OnNull-false-clause-stopped
