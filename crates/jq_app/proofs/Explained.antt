@@ -3,11 +3,13 @@ use Rattle.std.proofs.Common.{◌≡◌, ◌||◌, ℕ, List, [], ◌∷◌, Opt
 use Rattle.std.specs.List.{list_any}
 use Rattle.clap.specs.Words.{Text}
 use Rattle.jq_devices.specs.Notes.{IsNoted}
+use Rattle.jq_stream.specs.Failures.{StreamFailures}
 use Rattle.jq_stream.specs.Streams.{streams}
+use Rattle.jq_stream.specs.Views.{StreamsView}
+use Rattle.jq_app.specs.Blaming.{Failures, failures}
 use Rattle.jq_app.specs.Explained.{IsShown, asks_for_notes, is_explain}
 use Rattle.jq_app.specs.Stages.{Files, stage}
 use Rattle.jq_app.specs.Stopped.{CommandResult}
-use Rattle.jq_app.proofs.Blaming.{counts}
 
 -- the words by their bytes
 pub mapped : (words : List (String Global)) → list_any (λ w. is_explain (string_bytes w)) words ≡ asks_for_notes (map string_bytes words)
@@ -20,14 +22,17 @@ shown_plain asks failed on is = subst (λ b. IsShown b failed on on) (sym is) re
 pub shown_noted : (asks failed : Bool) (reported shown : Option (List ℕ)) → asks ≡ true → IsNoted failed reported shown → IsShown asks failed reported shown
 shown_noted asks failed reported shown is noted = subst (λ b. IsShown b failed reported shown) (sym is) noted
 
--- the result of a command is the same by the writer and by that within it
-pub noted_result : (fs : Files) (words : List Text) (files input output errors files_new input_new output_new errors_new before after starts starts_new : ℕ)
-    (remaining printed reported remaining_new printed_new reported_new on : Option (List ℕ)) (status : ℕ)
-    → before ≡ errors → after ≡ errors_new → on ≡ reported
-    → CommandResult fs words (counts files input output before) (counts files_new input_new output_new errors_new) (stage (streams remaining printed on) starts) (stage (streams remaining_new printed_new reported_new) starts_new) status
-    → CommandResult fs words (counts files input output errors) (counts files_new input_new output_new after) (stage (streams remaining printed reported) starts) (stage (streams remaining_new printed_new reported_new) starts_new) status
-noted_result fs words files input output errors files_new input_new output_new errors_new before after starts starts_new remaining printed reported remaining_new printed_new reported_new on status first last same h =
-    let new = stage (streams remaining_new printed_new reported_new) starts_new in
-    let by_first = subst (λ n. CommandResult fs words (counts files input output n) (counts files_new input_new output_new errors_new) (stage (streams remaining printed on) starts) new status) first h in
-    let by_last = subst (λ n. CommandResult fs words (counts files input output errors) (counts files_new input_new output_new n) (stage (streams remaining printed on) starts) new status) (sym last) by_first in
-    subst (λ e. CommandResult fs words (counts files input output errors) (counts files_new input_new output_new after) (stage (streams remaining printed e) starts) new status) same by_last
+abbrev counted_by : (files : ℕ) → StreamFailures → Failures
+counted_by files f = record { files = files; input = f.input; outputs = f.outputs }
+
+-- the result of a command is the same by standard error that takes notes and by that within it
+pub noted_result : {I J : Type 0} (fs : Files) (words : List Text) (n : ℕ) (old noted : StreamsView I) (after new : StreamsView J) (starts starts_new status : ℕ)
+    → noted.bytes ≡ old.bytes → noted.failures ≡ old.failures → new.bytes.remaining ≡ after.bytes.remaining → new.bytes.outputs.output ≡ after.bytes.outputs.output → new.failures ≡ after.failures
+    → CommandResult fs words (failures 0 noted) (failures n after) (stage noted.bytes starts) (stage after.bytes starts_new) status
+    → CommandResult fs words (failures 0 old) (failures n new) (stage old.bytes starts) (stage (streams new.bytes.remaining new.bytes.outputs.output after.bytes.outputs.errors) starts_new) status
+noted_result fs words n old noted after new starts starts_new status same_bytes same_failures remaining output counted h =
+    let by_failures = subst (λ f. CommandResult fs words (counted_by 0 f) (failures n after) (stage noted.bytes starts) (stage after.bytes starts_new) status) same_failures h in
+    let by_bytes = subst (λ b. CommandResult fs words (failures 0 old) (failures n after) (stage b starts) (stage after.bytes starts_new) status) same_bytes by_failures in
+    let by_counts = subst (λ f. CommandResult fs words (failures 0 old) (counted_by n f) (stage old.bytes starts) (stage after.bytes starts_new) status) (sym counted) by_bytes in
+    let by_remaining = subst (λ r. CommandResult fs words (failures 0 old) (failures n new) (stage old.bytes starts) (stage (streams r after.bytes.outputs.output after.bytes.outputs.errors) starts_new) status) (sym remaining) by_counts in
+    subst (λ o. CommandResult fs words (failures 0 old) (failures n new) (stage old.bytes starts) (stage (streams new.bytes.remaining o after.bytes.outputs.errors) starts_new) status) (sym output) by_remaining

@@ -1,12 +1,12 @@
 -- Which devices failed if the command reports a fault.
 use Rattle.std.specs.Prelude.{◌⊎◌, ⊤, ℕ, ◌<◌, List, Option}
 use Rattle.std.specs.Io.KnownBytes.{Appends}
-use Rattle.jq_devices.specs.Watched.{HasFailed, failures_of}
+use Rattle.jq_devices.specs.Watched.{HasFailed}
 use Rattle.jq_devices.specs.Writing.{AppendsFirst}
 use Rattle.jq_devices.specs.declared.faults.StreamFault.{StreamFault}
 use Rattle.jq_devices.specs.declared.faults.StreamFault.TheVariants.{Read, Write, NoMemory}
-use Rattle.jq_devices.specs.declared.watched.Watched.{Watched}
-use Rattle.jq_stream.specs.Failures.{AnOutputHasFailed, OutputFailures, output_failures}
+use Rattle.jq_stream.specs.Failures.{AnOutputHasFailed, OutputFailures}
+use Rattle.jq_stream.specs.Views.{StreamsView}
 
 -- the numbers of failures of the files, the standard input and both outputs
 pub record Failures : Type 0 where
@@ -14,8 +14,8 @@ pub record Failures : Type 0 where
   pub input : ℕ
   pub outputs : OutputFailures
 
-abbrev pub failures : {R O E : Type 0} → (files : ℕ) → Watched R → Watched O → Watched E → Failures
-failures files input output errors = record { files = files; input = failures_of input; outputs = output_failures output errors }
+abbrev pub failures : {I : Type 0} → (files : ℕ) → StreamsView I → Failures
+failures files devices = record { files = files; input = devices.failures.input; outputs = devices.failures.outputs }
 
 -- A device failed to which the fault belongs. Memory may run out without such a failure.
 abbrev pub IsBlamed : StreamFault → (old new : Failures) → Type 0

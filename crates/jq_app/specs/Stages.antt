@@ -6,10 +6,10 @@ use Rattle.jq_devices.specs.declared.opener.Opener as opener
 use Rattle.jq_devices.specs.declared.reader.FileReader.{FileReader}
 use Rattle.jq_devices.specs.declared.reader.UnnamedFiles.{UnnamedFiles}
 use Rattle.jq_devices.specs.declared.traits.Read as reader
-use Rattle.jq_devices.specs.declared.traits.Write as writer
 use Rattle.jq_devices.specs.declared.watched.Watched.{Watched}
 use Rattle.jq_starts.specs.Starts.{starts_in}
-use Rattle.jq_stream.specs.Streams.{Streams, streams_of}
+use Rattle.jq_stream.specs.Streams.{Streams}
+use Rattle.jq_stream.specs.Views.{StreamsView}
 use Rattle.jq_app.specs.declared.counts.Counts.{Counts}
 
 -- the bytes of a file by its name, if they are known
@@ -40,6 +40,6 @@ pub record Stage : Type 0 where
 abbrev pub stage : Streams → ℕ → Stage
 stage s n = record { streams = s; starts = n }
 
--- the same by the standard input, both outputs and the counts
-abbrev pub stage_of : {R O E : Type 0} → reader.Ghosts R → writer.Ghosts O → writer.Ghosts E → Watched R → Watched O → Watched E → Counts → Stage
-stage_of read print report input output errors counts = stage (streams_of read.remaining print.contents report.contents input output errors) (started_in counts)
+-- the same by the devices and the counts
+abbrev pub stage_of : {I : Type 0} → StreamsView I → Counts → Stage
+stage_of devices counts = stage devices.bytes (started_in counts)

@@ -15,24 +15,17 @@ use crate::words::report_noted;
 use jq_cli::{HELP_TEXT, UsageFault, VERSION_TEXT, config_of};
 use jq_devices::{FileReader, Opener, Read, StreamFault, UnnamedFiles, Watched, Write};
 use jq_run::refuse;
+use jq_stream::Streams;
 use std::alloc::Global;
 
 /// What is left of a command: the status of the process, the counts of its starts, the reader of the files that its words name,
-/// and standard error.
+/// and its other devices.
 #[derive(Drop)]
-pub struct Finished<'a, F: Opener, E> {
+pub struct Finished<'a, F: Opener, R: Read, O: Write, E: Write> {
     pub status: u8,
     pub counts: Counts,
     pub files: Watched<FileReader<'a, F>>,
-    pub errors: Watched<E>,
-}
-
-// The same without standard error.
-#[derive(Drop)]
-struct Reported<'a, F: Opener> {
-    status: u8,
-    counts: Counts,
-    files: Watched<FileReader<'a, F>>,
+    pub streams: Streams<R, O, E>,
 }
 
 /// Runs the command with the words after the program's name, reports a fault on standard error, and returns the status of
@@ -55,39 +48,26 @@ pub fn run_words<'a, F: Opener, R: Read, O: Write, E: Write>(
     words: Vec<String>,
     counts: Counts,
     files: UnnamedFiles<'a, F>,
-    input: &mut Watched<R>,
-    output: &mut Watched<O>,
-    errors: Watched<E>,
-) -> Finished<'a, F, E>
-    ensures served { HasRunWords F.Opener F.File.Read R.Read O.Write E.Write words.items files.entry counts input.old output.old errors result input.new output.new }
-    ensures unread { ¬ (ReadsTheStandardInput (map string_bytes words.items)) → input.new ≡ input.old }
+    streams: Streams<R, O, E>,
+) -> Finished<'a, F, R, O, E>
+    ensures served { HasRunWords F.Opener F.File.Read words.items files.entry counts streams result }
+    ensures unread { ¬ (ReadsTheStandardInput (map string_bytes words.items)) → result.streams.input ≡ streams.input }
 {
     let asks = asks_for_notes(words.as_slice());
-    let mut errors = errors;
-    if asks {
-        let mut noted = errors.noting(alloc);
-        let Reported {
-            status,
-            counts,
-            files,
-        } = run_reported(alloc, words, counts, files, input, output, &mut noted);
-        return Finished {
-            status,
-            counts,
-            files,
-            errors: noted.into_noted(),
-        };
+    if !asks {
+        return run_reported(alloc, words, counts, files, streams);
     }
-    let Reported {
+    let Finished {
         status,
         counts,
         files,
-    } = run_reported(alloc, words, counts, files, input, output, &mut errors);
+        streams,
+    } = run_reported(alloc, words, counts, files, streams.noting(alloc));
     Finished {
         status,
         counts,
         files,
-        errors,
+        streams: streams.into_noted(),
     }
 }
 
@@ -97,32 +77,33 @@ fn run_reported<'a, F: Opener, R: Read, O: Write, E: Write>(
     words: Vec<String>,
     counts: Counts,
     files: UnnamedFiles<'a, F>,
-    input: &mut Watched<R>,
-    output: &mut Watched<O>,
-    errors: &mut Watched<E>,
-) -> Reported<'a, F>
-    ensures served { HasReported F.Opener F.File.Read R.Read O.Write E.Write words.items files.entry counts input.old output.old errors.old result input.new output.new errors.new }
-    ensures unread { ¬ (ReadsTheStandardInput (map string_bytes words.items)) → input.new ≡ input.old }
+    streams: Streams<R, O, E>,
+) -> Finished<'a, F, R, O, E>
+    ensures served { HasReported F.Opener F.File.Read words.items files.entry counts streams result }
+    ensures unread { ¬ (ReadsTheStandardInput (map string_bytes words.items)) → result.streams.input ≡ streams.input }
 {
     let Ended {
         result,
         counts,
         files,
-    } = run_command(alloc, words, counts, files, input, output, errors);
+        streams,
+    } = run_command(alloc, words, counts, files, streams);
     match result {
-        Ok(status) => Reported {
+        Ok(status) => Finished {
             status,
             counts,
             files,
+            streams,
         },
         Err(fault) => {
-            let takes_notes = errors.takes_notes();
-            let note = fault_note(alloc, takes_notes, fault, &files, input, output);
-            let status = report_noted(fault, note.as_deref(), errors);
-            Reported {
+            let mut streams = streams;
+            let note = fault_note(alloc, fault, &files, &streams);
+            let status = report_noted(fault, note.as_deref(), &mut streams.outputs.errors);
+            Finished {
                 status,
                 counts,
                 files,
+                streams,
             }
         }
     }
@@ -134,44 +115,46 @@ fn run_command<'a, F: Opener, R: Read, O: Write, E: Write>(
     words: Vec<String>,
     counts: Counts,
     files: UnnamedFiles<'a, F>,
-    input: &mut Watched<R>,
-    output: &mut Watched<O>,
-    errors: &mut Watched<E>,
-) -> Ended<'a, F>
-    ensures served { OnFilesStatus F.Opener F.File.Read R.Read O.Write E.Write files.entry counts input.old output.old errors.old result input.new output.new errors.new
-        (AreWordsServed words.items) }
-    ensures stopped { OnFilesFault F.Opener F.File.Read R.Read O.Write E.Write files.entry counts input.old output.old errors.old result input.new output.new errors.new
-        (AreWordsStopped words.items) }
-    ensures blamed { IfErr result.result (λ fault. IsBlamed fault (failures 0 input.old output.old errors.old) (failures (failures_of result.files) input.new output.new errors.new)) }
-    ensures unread { ¬ (WordsNeedInput (map string_bytes words.items)) → input.new ≡ input.old }
+    streams: Streams<R, O, E>,
+) -> Ended<'a, F, R, O, E>
+    ensures served { OnFilesStatus F.Opener F.File.Read files.entry counts streams result (AreWordsServed words.items) }
+    ensures stopped { OnFilesFault F.Opener F.File.Read files.entry counts streams result (AreWordsStopped words.items) }
+    ensures blamed { IfErr result.result (λ fault. IsBlamed fault (failures 0 streams) (failures (failures_of result.files) result.streams)) }
+    ensures unread { ¬ (WordsNeedInput (map string_bytes words.items)) → result.streams.input ≡ streams.input }
 {
     let note = usage_note(alloc, words.as_slice());
+    let mut streams = streams;
     match config_of(alloc, words) {
-        Ok(config) => run_config(alloc, config, counts, files, input, output, errors),
+        Ok(config) => run_config(alloc, config, counts, files, streams),
         Err(UsageFault::Help) => Ended {
-            result: write_text(HELP_TEXT, output),
+            result: write_text(HELP_TEXT, &mut streams.outputs.output),
             counts,
             files: unread(alloc, files),
+            streams,
         },
         Err(UsageFault::Version) => Ended {
-            result: write_text(VERSION_TEXT, output),
+            result: write_text(VERSION_TEXT, &mut streams.outputs.output),
             counts,
             files: unread(alloc, files),
+            streams,
         },
         Err(UsageFault::Usage) => Ended {
-            result: refuse_words(note, errors),
+            result: refuse_words(note, &mut streams.outputs.errors),
             counts,
             files: unread(alloc, files),
+            streams,
         },
         Err(UsageFault::Line(text)) => Ended {
-            result: refuse(text.as_bytes(), 2, None, errors),
+            result: refuse(text.as_bytes(), 2, None, &mut streams.outputs.errors),
             counts,
             files: unread(alloc, files),
+            streams,
         },
         Err(UsageFault::NoMemory) => Ended {
             result: Err(StreamFault::NoMemory),
             counts,
             files: unread(alloc, files),
+            streams,
         },
     }
 }

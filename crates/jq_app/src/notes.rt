@@ -4,6 +4,7 @@ ghost use Rattle.jq_app.specs.Explained.{asks_for_notes, is_explain};
 
 use jq_cli::{UsageFault, take_args};
 use jq_devices::{FileReader, Opener, Read, StreamFault, Watched, Write};
+use jq_stream::Streams;
 use jv_data::NoMemory;
 use std::alloc::Global;
 use std::io::Error;
@@ -76,24 +77,22 @@ fn cause_note(alloc: Global, name: &str, error: Option<&Error>) -> Option<String
     format!(in alloc; "{name}: {error}").ok()
 }
 
-/// The file, the input or the output that failed, and the system's reason.
-pub(crate) fn fault_note<F: Opener, R: Read, O: Write>(
+/// The file, the input or the output that failed, and the system's reason; nothing if standard error takes no notes.
+pub(crate) fn fault_note<F: Opener, R: Read, O: Write, E: Write>(
     alloc: Global,
-    takes_notes: bool,
     fault: StreamFault,
     files: &Watched<FileReader<'_, F>>,
-    input: &Watched<R>,
-    output: &Watched<O>,
+    streams: &Streams<R, O, E>,
 ) -> Option<String> {
-    if !takes_notes {
+    if !streams.outputs.errors.takes_notes() {
         return None;
     }
     match fault {
         StreamFault::Read => match file_note(alloc, files) {
             Some(note) => Some(note),
-            None => cause_note(alloc, "standard input", input.error()),
+            None => cause_note(alloc, "standard input", streams.input.error()),
         },
-        StreamFault::Write => cause_note(alloc, "standard output", output.error()),
+        StreamFault::Write => cause_note(alloc, "standard output", streams.outputs.output.error()),
         StreamFault::NoMemory => None,
     }
 }

@@ -12,14 +12,16 @@ use crate::sessions::run_session;
 use jq_cli::Config;
 use jq_devices::{FileReader, Opener, Read, StreamFault, UnnamedFiles, Watched, Write};
 use jq_run::run_filter;
+use jq_stream::Streams;
 use std::alloc::Global;
 
-/// What a command returns, with the counts of its starts and the reader of its files.
+/// What a command returns, with the counts of its starts, the reader of its files and its other devices.
 #[derive(Drop)]
-pub(crate) struct Ended<'a, F: Opener> {
+pub(crate) struct Ended<'a, F: Opener, R: Read, O: Write, E: Write> {
     pub(crate) result: Result<u8, StreamFault>,
     pub(crate) counts: Counts,
     pub(crate) files: Watched<FileReader<'a, F>>,
+    pub(crate) streams: Streams<R, O, E>,
 }
 
 /// Compiles the filter of a configuration, runs it over the files or the standard input or serves a session, and returns the
@@ -29,16 +31,12 @@ pub(crate) fn run_config<'a, F: Opener, R: Read, O: Write, E: Write>(
     config: Config,
     counts: Counts,
     files: UnnamedFiles<'a, F>,
-    input: &mut Watched<R>,
-    output: &mut Watched<O>,
-    errors: &mut Watched<E>,
-) -> Ended<'a, F>
-    ensures done { OnFilesStatus F.Opener F.File.Read R.Read O.Write E.Write files.entry counts input.old output.old errors.old result input.new output.new errors.new
-        (IsConfigDone config) }
-    ensures stopped { OnFilesFault F.Opener F.File.Read R.Read O.Write E.Write files.entry counts input.old output.old errors.old result input.new output.new errors.new
-        (IsConfigStopped config) }
-    ensures blamed { IfErr result.result (λ fault. IsBlamed fault (failures 0 input.old output.old errors.old) (failures (failures_of result.files) input.new output.new errors.new)) }
-    ensures unread { ¬ (ReadsInput (shown config)) → input.new ≡ input.old }
+    streams: Streams<R, O, E>,
+) -> Ended<'a, F, R, O, E>
+    ensures done { OnFilesStatus F.Opener F.File.Read files.entry counts streams result (IsConfigDone config) }
+    ensures stopped { OnFilesFault F.Opener F.File.Read files.entry counts streams result (IsConfigStopped config) }
+    ensures blamed { IfErr result.result (λ fault. IsBlamed fault (failures 0 streams) (failures (failures_of result.files) result.streams)) }
+    ensures unread { ¬ (ReadsInput (shown config)) → result.streams.input ≡ streams.input }
 {
     let Config {
         options,
@@ -49,50 +47,53 @@ pub(crate) fn run_config<'a, F: Opener, R: Read, O: Write, E: Write>(
         explain,
     } = config;
     if explain {
-        errors.take_notes();
+        streams.outputs.errors.take_notes();
     }
     let text = filter.as_str();
     let no_file = names.as_slice().is_empty();
     let mut files = Watched::new(files.named(names));
     let mut counts = counts;
+    let mut streams = streams;
     if live {
         let (result, counts) = run_session(
-            alloc, text, options, follow, counts, &mut files, input, output, errors,
-        );
-        return Ended {
-            result,
-            counts,
-            files,
-        };
-    }
-    if no_file {
-        let result = run_filter(
             alloc,
             text,
             options,
-            &mut counts.starts,
-            input,
-            output,
-            errors,
+            follow,
+            counts,
+            &mut files,
+            &mut streams,
         );
         return Ended {
             result,
             counts,
             files,
+            streams,
         };
     }
-    let result = run_filter(
-        alloc,
-        text,
-        options,
-        &mut counts.starts,
-        &mut files,
-        output,
-        errors,
-    );
+    if no_file {
+        let result = run_filter(alloc, text, options, &mut counts.starts, &mut streams);
+        return Ended {
+            result,
+            counts,
+            files,
+            streams,
+        };
+    }
+    let Streams { input, outputs } = streams;
+    let mut over_files = Streams {
+        input: files,
+        outputs,
+    };
+    let result = run_filter(alloc, text, options, &mut counts.starts, &mut over_files);
+    let Streams {
+        input: files,
+        outputs,
+    } = over_files;
     Ended {
         result,
         counts,
         files,
+        streams: Streams { input, outputs },
     }
 }

@@ -22,7 +22,7 @@ use jq_run::refuse_filter;
 use jq_script::{Host, copy_options, serve};
 use jq_session::laws::plans_are_by_the_tree;
 use jq_session::{Refusal, Session};
-use jq_stream::{InputTexts, read_texts, report_fault};
+use jq_stream::{InputTexts, Streams, read_texts, report_fault};
 use jq_syntax::{CompileFault, Options};
 use jv_data::NoMemory;
 use std::alloc::Global;
@@ -36,25 +36,22 @@ pub(crate) fn run_session<I: Read, R: Read, O: Write, E: Write>(
     follow: bool,
     counts: Counts,
     files: &mut Watched<I>,
-    input: &mut Watched<R>,
-    output: &mut Watched<O>,
-    errors: &mut Watched<E>,
+    streams: &mut Streams<R, O, E>,
 ) -> (Result<u8, StreamFault>, Counts)
-    ensures done { OnStatus R.Read O.Write E.Write counts input.old output.old errors.old result input.new output.new errors.new
-        (IsTextSessionDone I.remaining files.old follow options filter.now) }
-    ensures stopped { OnFault R.Read O.Write E.Write counts input.old output.old errors.old result input.new output.new errors.new
-        (IsTextSessionStopped I.remaining files.old follow options filter.now) }
-    ensures blamed { IfErr result.0 (λ fault. IsBlamed fault (failures (failures_of files.old) input.old output.old errors.old) (failures (failures_of files.new) input.new output.new errors.new)) }
-    ensures unread { ¬ (IsAccepted (chosen options) (chars filter.now)) → input.new ≡ input.old }
+    ensures done { OnStatus counts streams.old result streams.new (IsTextSessionDone I.remaining files.old follow options filter.now) }
+    ensures stopped { OnFault counts streams.old result streams.new (IsTextSessionStopped I.remaining files.old follow options filter.now) }
+    ensures blamed { IfErr result.0 (λ fault. IsBlamed fault (failures (failures_of files.old) streams.old) (failures (failures_of files.new) streams.new)) }
+    ensures unread { ¬ (IsAccepted (chosen options) (chars filter.now)) → streams.new.input ≡ streams.old.input }
 {
     match compile_keeping(alloc, filter, options) {
         Ok(parts) => {
             let (compiled, kept) = parts;
-            serve_filter(
-                alloc, compiled, kept, follow, counts, files, input, output, errors,
-            )
+            serve_filter(alloc, compiled, kept, follow, counts, files, streams)
         }
-        Err(fault) => (refuse_filter(alloc, filter, fault, errors), counts),
+        Err(fault) => (
+            refuse_filter(alloc, filter, fault, &mut streams.outputs.errors),
+            counts,
+        ),
     }
 }
 
@@ -85,20 +82,14 @@ fn serve_filter<I: Read, R: Read, O: Write, E: Write>(
     follow: bool,
     counts: Counts,
     files: &mut Watched<I>,
-    input: &mut Watched<R>,
-    output: &mut Watched<O>,
-    errors: &mut Watched<E>,
+    streams: &mut Streams<R, O, E>,
 ) -> (Result<u8, StreamFault>, Counts)
-    ensures done { OnStatus R.Read O.Write E.Write counts input.old output.old errors.old result input.new output.new errors.new
-        (IsFilterSessionDone I.remaining files.old follow options filter) }
-    ensures stopped { OnFault R.Read O.Write E.Write counts input.old output.old errors.old result input.new output.new errors.new
-        (IsFilterSessionStopped I.remaining files.old follow options filter) }
-    ensures blamed { IfErr result.0 (λ fault. IsBlamed fault (failures (failures_of files.old) input.old output.old errors.old) (failures (failures_of files.new) input.new output.new errors.new)) }
+    ensures done { OnStatus counts streams.old result streams.new (IsFilterSessionDone I.remaining files.old follow options filter) }
+    ensures stopped { OnFault counts streams.old result streams.new (IsFilterSessionStopped I.remaining files.old follow options filter) }
+    ensures blamed { IfErr result.0 (λ fault. IsBlamed fault (failures (failures_of files.old) streams.old) (failures (failures_of files.new) streams.new)) }
 {
     match read_texts(alloc, files) {
-        Ok(texts) => serve_texts(
-            alloc, filter, options, follow, counts, texts, input, output, errors,
-        ),
+        Ok(texts) => serve_texts(alloc, filter, options, follow, counts, texts, streams),
         Err(fault) => (Err(fault), counts),
     }
 }
@@ -111,26 +102,31 @@ fn serve_texts<R: Read, O: Write, E: Write>(
     follow: bool,
     counts: Counts,
     texts: InputTexts,
-    input: &mut Watched<R>,
-    output: &mut Watched<O>,
-    errors: &mut Watched<E>,
+    streams: &mut Streams<R, O, E>,
 ) -> (Result<u8, StreamFault>, Counts)
-    ensures done { OnStatus R.Read O.Write E.Write counts input.old output.old errors.old result input.new output.new errors.new
-        (IsSessionOverTextsDone texts follow options filter) }
-    ensures stopped { OnFault R.Read O.Write E.Write counts input.old output.old errors.old result input.new output.new errors.new
-        (IsSessionOverTextsStopped texts follow options filter) }
-    ensures blamed { IfErr result.0 (λ fault. (files : ℕ) → IsBlamed fault (failures files input.old output.old errors.old) (failures files input.new output.new errors.new)) }
+    ensures done { OnStatus counts streams.old result streams.new (IsSessionOverTextsDone texts follow options filter) }
+    ensures stopped { OnFault counts streams.old result streams.new (IsSessionOverTextsStopped texts follow options filter) }
+    ensures blamed { IfErr result.0 (λ fault. (files : ℕ) → IsBlamed fault (failures files streams.old) (failures files streams.new)) }
 {
     let InputTexts { values, fault } = texts;
     if let Some(fault) = fault {
-        return (report_fault(alloc, fault, errors), counts);
+        return (
+            report_fault(alloc, fault, &mut streams.outputs.errors),
+            counts,
+        );
     }
     plans_are_by_the_tree();
     let Counts { starts, spare } = counts;
     match Session::start(alloc, starts, options, filter, values) {
-        Ok(session) => serve_host(alloc, follow, Host::new(session, spare), input, output),
+        Ok(session) => serve_host(
+            alloc,
+            follow,
+            Host::new(session, spare),
+            &mut streams.input,
+            &mut streams.outputs.output,
+        ),
         Err(refused) => (
-            refuse_start(refused.refusal, errors),
+            refuse_start(refused.refusal, &mut streams.outputs.errors),
             Counts {
                 starts: refused.starts,
                 spare,

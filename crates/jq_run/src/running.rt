@@ -1,20 +1,19 @@
 // The run of a filter over an input.
 ghost use Rattle.std.specs.Prelude.{◌≡◌, ℕ, List, IfErr, IfOk};
 ghost use Rattle.std.specs.Str.{chars};
-ghost use Rattle.jq_devices.specs.Watched.{HasFailed, failures_of};
+ghost use Rattle.jq_devices.specs.Watched.{HasFailed};
 ghost use Rattle.jq_devices.specs.declared.faults.StreamFault.TheVariants.{Read as ReadFault, Write as WriteFault};
 ghost use Rattle.jq_filters.specs.Filters.{IsFilterOf};
-ghost use Rattle.jq_stream.specs.Failures.{AnOutputHasFailed, output_failures};
-ghost use Rattle.jq_stream.specs.Streams.{OnStreams};
+ghost use Rattle.jq_stream.specs.Failures.{AnOutputHasFailed};
 ghost use Rattle.jq_syntax.specs.Chosen.{Chosen, chosen};
 ghost use Rattle.jq_run.specs.Filters.{FilterNeedsInput};
 ghost use Rattle.jq_run.specs.Runs.{HasRunCompiled, HasStoppedCompiled, IsTextDone, IsTextStopped};
 
 use crate::refusals::refuse_filter;
-use jq_devices::{Read, StreamFault, Watched, Write};
+use jq_devices::{Read, StreamFault, Write};
 use jq_filters::Filter;
 use jq_starts::Starts;
-use jq_stream::run_stream;
+use jq_stream::{Streams, run_stream};
 use jq_syntax::Options;
 use std::alloc::Global;
 
@@ -25,21 +24,17 @@ pub fn run_filter<R: Read, O: Write, E: Write>(
     filter: &str,
     options: Options,
     starts: &mut Starts,
-    input: &mut Watched<R>,
-    output: &mut Watched<O>,
-    errors: &mut Watched<E>,
+    streams: &mut Streams<R, O, E>,
 ) -> Result<u8, StreamFault>
-    ensures done { IfOk result (λ status. OnStreams R.remaining O.contents E.contents input.old output.old errors.old input.new output.new errors.new
-        (IsTextDone options filter.now status)) }
-    ensures stopped { IfErr result (λ fault. OnStreams R.remaining O.contents E.contents input.old output.old errors.old input.new output.new errors.new
-        (IsTextStopped options filter.now fault)) }
-    ensures read_failed { IfErr result (λ fault. fault ≡ ReadFault → HasFailed (failures_of input.old) (failures_of input.new)) }
-    ensures write_failed { IfErr result (λ fault. fault ≡ WriteFault → AnOutputHasFailed (output_failures output.old errors.old) (output_failures output.new errors.new)) }
-    ensures unread { ¬ (FilterNeedsInput (chosen options) (chars filter.now)) → input.new ≡ input.old }
+    ensures done { IfOk result (λ status. IsTextDone options filter.now status streams.old.bytes streams.new.bytes) }
+    ensures stopped { IfErr result (λ fault. IsTextStopped options filter.now fault streams.old.bytes streams.new.bytes) }
+    ensures read_failed { IfErr result (λ fault. fault ≡ ReadFault → HasFailed streams.old.failures.input streams.new.failures.input) }
+    ensures write_failed { IfErr result (λ fault. fault ≡ WriteFault → AnOutputHasFailed streams.old.failures.outputs streams.new.failures.outputs) }
+    ensures unread { ¬ (FilterNeedsInput (chosen options) (chars filter.now)) → streams.new.input ≡ streams.old.input }
 {
     match Filter::compile(alloc, filter, options) {
-        Ok(compiled) => run_compiled(alloc, &compiled, starts, input, output, errors),
-        Err(fault) => refuse_filter(alloc, filter, fault, errors),
+        Ok(compiled) => run_compiled(alloc, &compiled, starts, streams),
+        Err(fault) => refuse_filter(alloc, filter, fault, &mut streams.outputs.errors),
     }
 }
 
@@ -49,19 +44,15 @@ pub fn run_compiled<R: Read, O: Write, E: Write>(
     alloc: Global,
     filter: &Filter,
     starts: &mut Starts,
-    input: &mut Watched<R>,
-    output: &mut Watched<O>,
-    errors: &mut Watched<E>,
+    streams: &mut Streams<R, O, E>,
 ) -> Result<u8, StreamFault>
-    ensures ran { IfOk result (λ status. OnStreams R.remaining O.contents E.contents input.old output.old errors.old input.new output.new errors.new
-        (HasRunCompiled filter.now status)) }
-    ensures stopped { IfErr result (λ fault. OnStreams R.remaining O.contents E.contents input.old output.old errors.old input.new output.new errors.new
-        (HasStoppedCompiled filter.now fault)) }
-    ensures read_failed { IfErr result (λ fault. fault ≡ ReadFault → HasFailed (failures_of input.old) (failures_of input.new)) }
-    ensures write_failed { IfErr result (λ fault. fault ≡ WriteFault → AnOutputHasFailed (output_failures output.old errors.old) (output_failures output.new errors.new)) }
-    ensures unread { (o : Chosen) (text : List ℕ) → IsFilterOf o text filter.now → ¬ (FilterNeedsInput o text) → input.new ≡ input.old }
+    ensures ran { IfOk result (λ status. HasRunCompiled filter.now status streams.old.bytes streams.new.bytes) }
+    ensures stopped { IfErr result (λ fault. HasStoppedCompiled filter.now fault streams.old.bytes streams.new.bytes) }
+    ensures read_failed { IfErr result (λ fault. fault ≡ ReadFault → HasFailed streams.old.failures.input streams.new.failures.input) }
+    ensures write_failed { IfErr result (λ fault. fault ≡ WriteFault → AnOutputHasFailed streams.old.failures.outputs streams.new.failures.outputs) }
+    ensures unread { (o : Chosen) (text : List ℕ) → IsFilterOf o text filter.now → ¬ (FilterNeedsInput o text) → streams.new.input ≡ streams.old.input }
 {
     let runner = filter.runner();
     let settings = filter.settings();
-    run_stream(alloc, &runner, settings, starts, input, output, errors)
+    run_stream(alloc, &runner, settings, starts, streams)
 }

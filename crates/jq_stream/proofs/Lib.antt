@@ -1,3 +1,4 @@
+pub mod Opened
 pub mod Blaming
 pub mod Sending
 pub mod Printing

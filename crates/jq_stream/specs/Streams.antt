@@ -3,8 +3,6 @@ use Rattle.std.specs.Prelude.{◌≡◌, ℕ, List, true, Option}
 use Rattle.std.specs.Io.KnownBytes.{Appends}
 use Rattle.jv_text.specs.Stream.{stream}
 use Rattle.jq_devices.specs.Reading.{IsWhole}
-use Rattle.jq_devices.specs.Watched.{device_of}
-use Rattle.jq_devices.specs.declared.watched.Watched.{Watched}
 use Rattle.jq_filters.specs.Outcomes.{Outcome, Mode, Job, stream_outcome}
 
 -- the bytes on standard output and on standard error, if the writers' bytes are known
@@ -22,16 +20,6 @@ outputs output errors = record { output = output; errors = errors }
 
 abbrev pub streams : Option (List ℕ) → Option (List ℕ) → Option (List ℕ) → Streams
 streams remaining output errors = record { remaining = remaining; outputs = outputs output errors }
-
--- the bytes that a reader has left and those on two writers, by what each has
-abbrev pub streams_of : {R O E : Type 0} → (left : R → Option (List ℕ)) → (printed : O → Option (List ℕ)) → (reported : E → Option (List ℕ)) → Watched R → Watched O → Watched E → Streams
-streams_of left printed reported input output errors = streams (left (device_of input)) (printed (device_of output)) (reported (device_of errors))
-
--- this relation holds between what a reader and two writers have before a call and after it
-abbrev pub OnStreams : {R O E : Type 0} → (left : R → Option (List ℕ)) → (printed : O → Option (List ℕ)) → (reported : E → Option (List ℕ)) → Watched R → Watched O → Watched E → Watched R → Watched O → Watched E
-    → (relation : (old new : Streams) → Type 0) → Type 0
-OnStreams left printed reported input_old output_old errors_old input_new output_new errors_new relation =
-    relation (streams_of left printed reported input_old output_old errors_old) (streams_of left printed reported input_new output_new errors_new)
 
 -- the bytes of this outcome were written
 pub record Writes (outcome : Outcome) (old new : Outputs) : Type 0 where

@@ -6,7 +6,6 @@ pub mod Gathering
 pub mod Once
 pub mod Valued
 pub mod Blaming
-pub mod Outputs
 pub mod Modes
 pub mod Feeding
 pub mod Ready

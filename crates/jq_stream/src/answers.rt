@@ -12,13 +12,12 @@ ghost use Rattle.jq_devices.specs.declared.faults.StreamFault.TheVariants.{Read 
 ghost use Rattle.jq_filters.specs.Outcomes.{error_line, error_prefix, end_status, ending_report, first_halt, halt_status, is_failure, last_by, stop_report};
 ghost use Rattle.jq_filters.specs.Pieces.{last_of};
 ghost use Rattle.jq_filters.specs.Runner.{job_of};
-ghost use Rattle.jq_stream.specs.private.Outputs.{OnOutputs};
-ghost use Rattle.jq_stream.specs.Failures.{output_failures};
 ghost use Rattle.jq_stream.specs.private.Blaming.{IsWriteBlamed, NoneFell};
 ghost use Rattle.jq_stream.specs.private.Cutting.{IsCutting};
 
 use crate::reports::note_input;
-use jq_devices::{StreamFault, Watched, Write, write};
+use crate::streams::Outputs;
+use jq_devices::{StreamFault, Write, write};
 use jq_engine::{Engine, Turn};
 use jq_filters::{Runner, Settings, no_inputs};
 use jq_natives::truth;
@@ -104,24 +103,19 @@ impl OutputBuffers {
         starts: &mut Starts,
         cutter: &mut Cutter,
         file: Option<&str>,
-        output: &mut Watched<O>,
-        errors: &mut Watched<E>,
+        outputs: &mut Outputs<O, E>,
     ) -> Result<Reached, StreamFault>
         requires stream { IsCutting cutter.old }
         requires empty { HasEmptyBuffers self.old }
-        ensures answered { IfOk result (λ up_to. OnOutputs O.contents E.contents output.old errors.old output.new errors.new
-            (AnswersUpTo up_to settings runner.now cutter.old cutter.new self.old self.new)) }
-        ensures unfailed { OnOk result (output_failures output.new errors.new ≡ output_failures output.old errors.old) }
-        ensures blamed { IfErr result (λ fault. IsWriteBlamed fault (output_failures output.old errors.old) (output_failures output.new errors.new)) }
-        ensures stopped { OnErr result (OnOutputs O.contents E.contents output.old errors.old output.new errors.new
-            (WritesFirstReady settings runner.now cutter.old cutter.new)) }
+        ensures answered { IfOk result (λ up_to. AnswersUpTo up_to settings runner.now cutter.old cutter.new self.old self.new outputs.old.bytes outputs.new.bytes) }
+        ensures unfailed { OnOk result (outputs.new.failures ≡ outputs.old.failures) }
+        ensures blamed { IfErr result (λ fault. IsWriteBlamed fault outputs.old.failures outputs.new.failures) }
+        ensures stopped { OnErr result (WritesFirstReady settings runner.now cutter.old cutter.new outputs.old.bytes outputs.new.bytes) }
         ensures empty { HasEmptyBuffers self.new }
         ensures unfed { IsFedAlike cutter.old cutter.new }
     {
-        let reached = self.answer_all(
-            alloc, runner, settings, starts, cutter, file, output, errors,
-        );
-        self.write_buffers(output, errors)?;
+        let reached = self.answer_all(alloc, runner, settings, starts, cutter, file, outputs);
+        self.write_buffers(outputs)?;
         reached
     }
 
@@ -134,24 +128,21 @@ impl OutputBuffers {
         starts: &mut Starts,
         cutter: &mut Cutter,
         file: Option<&str>,
-        output: &mut Watched<O>,
-        errors: &mut Watched<E>,
+        outputs: &mut Outputs<O, E>,
     ) -> Result<Reached, StreamFault>
         requires { IsCutting cutter.old }
-        ensures answered { IfOk result (λ up_to. OnOutputs O.contents E.contents output.old errors.old output.new errors.new
-            (AnswersUpTo up_to settings runner.now cutter.old cutter.new self.old self.new)) }
-        ensures unfailed { OnOk result (output_failures output.new errors.new ≡ output_failures output.old errors.old) }
-        ensures blamed { IfErr result (λ fault. IsWriteBlamed fault (output_failures output.old errors.old) (output_failures output.new errors.new)) }
+        ensures answered { IfOk result (λ up_to. AnswersUpTo up_to settings runner.now cutter.old cutter.new self.old self.new outputs.old.bytes outputs.new.bytes) }
+        ensures unfailed { OnOk result (outputs.new.failures ≡ outputs.old.failures) }
+        ensures blamed { IfErr result (λ fault. IsWriteBlamed fault outputs.old.failures outputs.new.failures) }
         ensures fault { IfErr result (λ fault. fault ≢ ReadFault) }
-        ensures stopped { OnErr result (OnOutputs O.contents E.contents output.old errors.old output.new errors.new
-            (AnswersFirst settings runner.now cutter.old cutter.new self.old self.new)) }
+        ensures stopped { OnErr result (AnswersFirst settings runner.now cutter.old cutter.new self.old self.new outputs.old.bytes outputs.new.bytes) }
         ensures unfed { IsFedAlike cutter.old cutter.new }
     {
         loop {
             match cutter.next() {
                 Ok(Some(value)) => {
                     let halt = self.answer_noted(
-                        alloc, runner, settings, starts, value, file, output, errors,
+                        alloc, runner, settings, starts, value, file, outputs,
                     )?;
                     if let Some(status) = halt {
                         return Ok(Reached::Halt(status));
@@ -173,22 +164,19 @@ impl OutputBuffers {
         starts: &mut Starts,
         value: Val,
         file: Option<&str>,
-        output: &mut Watched<O>,
-        errors: &mut Watched<E>,
+        outputs: &mut Outputs<O, E>,
     ) -> Result<Option<u8>, StreamFault>
         ensures halt { IfOk result (λ halt. halt ≡ first_halt (runs_on (job_of settings runner.now) (view value ∷ []))) }
-        ensures ok { OnOk result (OnOutputs O.contents E.contents output.old errors.old output.new errors.new
-            (IsAnsweredBy settings runner.now (view value ∷ []) self.old self.new)) }
-        ensures err { OnErr result (OnOutputs O.contents E.contents output.old errors.old output.new errors.new
-            (IsAnsweredFirstBy settings runner.now (view value ∷ []) self.old self.new)) }
-        ensures unfailed { OnOk result (output_failures output.new errors.new ≡ output_failures output.old errors.old) }
-        ensures blamed { IfErr result (λ fault. IsWriteBlamed fault (output_failures output.old errors.old) (output_failures output.new errors.new)) }
+        ensures ok { OnOk result (IsAnsweredBy settings runner.now (view value ∷ []) self.old self.new outputs.old.bytes outputs.new.bytes) }
+        ensures err { OnErr result (IsAnsweredFirstBy settings runner.now (view value ∷ []) self.old self.new outputs.old.bytes outputs.new.bytes) }
+        ensures unfailed { OnOk result (outputs.new.failures ≡ outputs.old.failures) }
+        ensures blamed { IfErr result (λ fault. IsWriteBlamed fault outputs.old.failures outputs.new.failures) }
         ensures fault { IfErr result (λ fault. fault ≢ ReadFault) }
     {
         let failures = self.failures;
-        let halt = self.answer(alloc, runner, settings, starts, value, output, errors)?;
+        let halt = self.answer(alloc, runner, settings, starts, value, outputs)?;
         let has_failed = self.failures != failures;
-        self.end_input(alloc, has_failed, file, output, errors)?;
+        self.end_input(alloc, has_failed, file, outputs)?;
         Ok(halt)
     }
 
@@ -198,25 +186,22 @@ impl OutputBuffers {
         alloc: Global,
         has_failed: bool,
         file: Option<&str>,
-        output: &mut Watched<O>,
-        errors: &mut Watched<E>,
+        outputs: &mut Outputs<O, E>,
     ) -> Result<(), StreamFault>
-        ensures ok { OnOk result (OnOutputs O.contents E.contents output.old errors.old output.new errors.new
-            (IsPrinted [] self.old self.new)) }
+        ensures ok { OnOk result (IsPrinted [] self.old self.new outputs.old.bytes outputs.new.bytes) }
         ensures last { self.new.last ≡ self.old.last }
-        ensures err { OnErr result (OnOutputs O.contents E.contents output.old errors.old output.new errors.new
-            (IsPrintedFirst [] self.old self.new)) }
-        ensures unfailed { OnOk result (output_failures output.new errors.new ≡ output_failures output.old errors.old) }
-        ensures blamed { IfErr result (λ fault. IsWriteBlamed fault (output_failures output.old errors.old) (output_failures output.new errors.new)) }
+        ensures err { OnErr result (IsPrintedFirst [] self.old self.new outputs.old.bytes outputs.new.bytes) }
+        ensures unfailed { OnOk result (outputs.new.failures ≡ outputs.old.failures) }
+        ensures blamed { IfErr result (λ fault. IsWriteBlamed fault outputs.old.failures outputs.new.failures) }
         ensures fault { IfErr result (λ fault. fault ≢ ReadFault) }
     {
         let number = self.inputs;
         self.inputs = number.saturating_add(1);
-        if !has_failed || !errors.takes_notes() {
+        if !has_failed || !outputs.errors.takes_notes() {
             return Ok(());
         }
-        self.write_buffers(output, errors)?;
-        note_input(alloc, number, file, errors)
+        self.write_buffers(outputs)?;
+        note_input(alloc, number, file, &mut outputs.errors)
     }
 
     /// Runs the filter on a value, where `inputs` returns nothing, and returns the status if the run halts.
@@ -227,21 +212,18 @@ impl OutputBuffers {
         settings: Settings,
         starts: &mut Starts,
         value: Val,
-        output: &mut Watched<O>,
-        errors: &mut Watched<E>,
+        outputs: &mut Outputs<O, E>,
     ) -> Result<Option<u8>, StreamFault>
         ensures halt { IfOk result (λ halt. halt ≡ first_halt (runs_on (job_of settings runner.now) (view value ∷ []))) }
-        ensures ok { OnOk result (OnOutputs O.contents E.contents output.old errors.old output.new errors.new
-            (IsAnsweredBy settings runner.now (view value ∷ []) self.old self.new)) }
-        ensures err { OnErr result (OnOutputs O.contents E.contents output.old errors.old output.new errors.new
-            (IsAnsweredFirstBy settings runner.now (view value ∷ []) self.old self.new)) }
-        ensures unfailed { OnOk result (output_failures output.new errors.new ≡ output_failures output.old errors.old) }
-        ensures blamed { IfErr result (λ fault. IsWriteBlamed fault (output_failures output.old errors.old) (output_failures output.new errors.new)) }
+        ensures ok { OnOk result (IsAnsweredBy settings runner.now (view value ∷ []) self.old self.new outputs.old.bytes outputs.new.bytes) }
+        ensures err { OnErr result (IsAnsweredFirstBy settings runner.now (view value ∷ []) self.old self.new outputs.old.bytes outputs.new.bytes) }
+        ensures unfailed { OnOk result (outputs.new.failures ≡ outputs.old.failures) }
+        ensures blamed { IfErr result (λ fault. IsWriteBlamed fault outputs.old.failures outputs.new.failures) }
         ensures fault { IfErr result (λ fault. fault ≢ ReadFault) }
         ensures started { HasStarted 1 starts.old starts.new }
     {
         let engine = runner.start(alloc, starts, no_inputs(alloc), value)?;
-        self.run(alloc, engine, settings.style, output, errors)
+        self.run(alloc, engine, settings.style, outputs)
     }
 
     /// Prints the outputs of a run, reports how it ends, and returns the status if it halts.
@@ -250,20 +232,17 @@ impl OutputBuffers {
         alloc: Global,
         run: Engine<'_>,
         style: Style,
-        output: &mut Watched<O>,
-        errors: &mut Watched<E>,
+        outputs: &mut Outputs<O, E>,
     ) -> Result<Option<u8>, StreamFault>
         ensures halt { IfOk result (λ halt. (r : Run Item) → IsRest run.entry r → halt ≡ first_halt (r ∷ [])) }
-        ensures ok { OnOk result (OnOutputs O.contents E.contents output.old errors.old output.new errors.new
-            (IsRestAnswered style run.entry self.old self.new)) }
-        ensures err { OnErr result (OnOutputs O.contents E.contents output.old errors.old output.new errors.new
-            (IsRestAnsweredFirst style run.entry self.old self.new)) }
-        ensures unfailed { OnOk result (output_failures output.new errors.new ≡ output_failures output.old errors.old) }
-        ensures blamed { IfErr result (λ fault. IsWriteBlamed fault (output_failures output.old errors.old) (output_failures output.new errors.new)) }
+        ensures ok { OnOk result (IsRestAnswered style run.entry self.old self.new outputs.old.bytes outputs.new.bytes) }
+        ensures err { OnErr result (IsRestAnsweredFirst style run.entry self.old self.new outputs.old.bytes outputs.new.bytes) }
+        ensures unfailed { OnOk result (outputs.new.failures ≡ outputs.old.failures) }
+        ensures blamed { IfErr result (λ fault. IsWriteBlamed fault outputs.old.failures outputs.new.failures) }
         ensures fault { IfErr result (λ fault. fault ≢ ReadFault) }
     {
         let mut engine = run;
-        self.run_engine(alloc, &mut engine, style, output, errors)
+        self.run_engine(alloc, &mut engine, style, outputs)
     }
 
     // Prints the remaining outputs of an engine, reports how its run ends, and returns the status if it halts.
@@ -272,24 +251,21 @@ impl OutputBuffers {
         alloc: Global,
         engine: &mut Engine<'_>,
         style: Style,
-        output: &mut Watched<O>,
-        errors: &mut Watched<E>,
+        outputs: &mut Outputs<O, E>,
     ) -> Result<Option<u8>, StreamFault>
         ensures halt { IfOk result (λ halt. (r : Run Item) → IsRest engine.old r → halt ≡ first_halt (r ∷ [])) }
-        ensures ok { OnOk result (OnOutputs O.contents E.contents output.old errors.old output.new errors.new
-            (IsRestAnswered style engine.old self.old self.new)) }
-        ensures err { OnErr result (OnOutputs O.contents E.contents output.old errors.old output.new errors.new
-            (IsRestAnsweredFirst style engine.old self.old self.new)) }
-        ensures unfailed { OnOk result (output_failures output.new errors.new ≡ output_failures output.old errors.old) }
-        ensures blamed { IfErr result (λ fault. IsWriteBlamed fault (output_failures output.old errors.old) (output_failures output.new errors.new)) }
+        ensures ok { OnOk result (IsRestAnswered style engine.old self.old self.new outputs.old.bytes outputs.new.bytes) }
+        ensures err { OnErr result (IsRestAnsweredFirst style engine.old self.old self.new outputs.old.bytes outputs.new.bytes) }
+        ensures unfailed { OnOk result (outputs.new.failures ≡ outputs.old.failures) }
+        ensures blamed { IfErr result (λ fault. IsWriteBlamed fault outputs.old.failures outputs.new.failures) }
         ensures fault { IfErr result (λ fault. fault ≢ ReadFault) }
     {
         for _turn in 0..u64::MAX {
             match engine.next() {
-                Turn::Output(value) => self.print(alloc, &value, style, output, errors)?,
+                Turn::Output(value) => self.print(alloc, &value, style, outputs)?,
                 Turn::End(ending) => {
                     self.report(alloc, &ending)?;
-                    self.write_if_large(output, errors)?;
+                    self.write_if_large(outputs)?;
                     return Ok(halt_status(&ending));
                 }
                 Turn::NoMemory => return Err(StreamFault::NoMemory),
@@ -305,27 +281,24 @@ impl OutputBuffers {
         alloc: Global,
         value: &Val,
         style: Style,
-        output: &mut Watched<O>,
-        errors: &mut Watched<E>,
+        outputs: &mut Outputs<O, E>,
     ) -> Result<(), StreamFault>
-        ensures ok { OnOk result (OnOutputs O.contents E.contents output.old errors.old output.new errors.new
-            (IsPrinted (printed style (view value.now)) self.old self.new)) }
+        ensures ok { OnOk result (IsPrinted (printed style (view value.now)) self.old self.new outputs.old.bytes outputs.new.bytes) }
         ensures last { OnOk result (last_of self.new.last ≡ last_by (is_true (view value.now))) }
-        ensures err { OnErr result (OnOutputs O.contents E.contents output.old errors.old output.new errors.new
-            (IsPrintedFirst (printed style (view value.now)) self.old self.new)) }
-        ensures unfailed { OnOk result (output_failures output.new errors.new ≡ output_failures output.old errors.old) }
-        ensures blamed { IfErr result (λ fault. IsWriteBlamed fault (output_failures output.old errors.old) (output_failures output.new errors.new)) }
+        ensures err { OnErr result (IsPrintedFirst (printed style (view value.now)) self.old self.new outputs.old.bytes outputs.new.bytes) }
+        ensures unfailed { OnOk result (outputs.new.failures ≡ outputs.old.failures) }
+        ensures blamed { IfErr result (λ fault. IsWriteBlamed fault outputs.old.failures outputs.new.failures) }
         ensures fault { IfErr result (λ fault. fault ≢ ReadFault) }
     {
         self.last = last_of(value);
         match Printer::new(alloc, value, style)? {
             Some(printer) => {
                 let mut rest = printer;
-                self.print_pieces(alloc, &mut rest, output, errors)
+                self.print_pieces(alloc, &mut rest, outputs)
             }
             None => {
                 print(alloc, value, style, &mut self.printed)?;
-                self.write_if_large(output, errors)
+                self.write_if_large(outputs)
             }
         }
     }
@@ -335,20 +308,17 @@ impl OutputBuffers {
         &mut self,
         alloc: Global,
         printer: &mut Printer<'_>,
-        output: &mut Watched<O>,
-        errors: &mut Watched<E>,
+        outputs: &mut Outputs<O, E>,
     ) -> Result<(), StreamFault>
-        ensures ok { OnOk result (OnOutputs O.contents E.contents output.old errors.old output.new errors.new
-            (IsPrinted printer.old self.old self.new)) }
+        ensures ok { OnOk result (IsPrinted printer.old self.old self.new outputs.old.bytes outputs.new.bytes) }
         ensures last { self.new.last ≡ self.old.last }
-        ensures err { OnErr result (OnOutputs O.contents E.contents output.old errors.old output.new errors.new
-            (IsPrintedFirst printer.old self.old self.new)) }
-        ensures unfailed { OnOk result (output_failures output.new errors.new ≡ output_failures output.old errors.old) }
-        ensures blamed { IfErr result (λ fault. IsWriteBlamed fault (output_failures output.old errors.old) (output_failures output.new errors.new)) }
+        ensures err { OnErr result (IsPrintedFirst printer.old self.old self.new outputs.old.bytes outputs.new.bytes) }
+        ensures unfailed { OnOk result (outputs.new.failures ≡ outputs.old.failures) }
+        ensures blamed { IfErr result (λ fault. IsWriteBlamed fault outputs.old.failures outputs.new.failures) }
         ensures fault { IfErr result (λ fault. fault ≢ ReadFault) }
     {
         for _piece in 0..u64::MAX {
-            let more = self.print_piece(alloc, printer, output, errors)?;
+            let more = self.print_piece(alloc, printer, outputs)?;
             if !more {
                 return Ok(());
             }
@@ -363,40 +333,34 @@ impl OutputBuffers {
         &mut self,
         alloc: Global,
         printer: &mut Printer<'_>,
-        output: &mut Watched<O>,
-        errors: &mut Watched<E>,
+        outputs: &mut Outputs<O, E>,
     ) -> Result<bool, StreamFault>
-        ensures ok { IfOk result (λ more. OnOutputs O.contents E.contents output.old errors.old output.new errors.new
-            (IsPiecePrinted more printer.old printer.new self.old self.new)) }
+        ensures ok { IfOk result (λ more. IsPiecePrinted more printer.old printer.new self.old self.new outputs.old.bytes outputs.new.bytes) }
         ensures last { self.new.last ≡ self.old.last }
-        ensures err { OnErr result (OnOutputs O.contents E.contents output.old errors.old output.new errors.new
-            (IsPrintedFirst printer.old self.old self.new)) }
-        ensures unfailed { OnOk result (output_failures output.new errors.new ≡ output_failures output.old errors.old) }
-        ensures blamed { IfErr result (λ fault. IsWriteBlamed fault (output_failures output.old errors.old) (output_failures output.new errors.new)) }
+        ensures err { OnErr result (IsPrintedFirst printer.old self.old self.new outputs.old.bytes outputs.new.bytes) }
+        ensures unfailed { OnOk result (outputs.new.failures ≡ outputs.old.failures) }
+        ensures blamed { IfErr result (λ fault. IsWriteBlamed fault outputs.old.failures outputs.new.failures) }
         ensures fault { IfErr result (λ fault. fault ≢ ReadFault) }
     {
         let more = printer.print_next(alloc, &mut self.printed)?;
-        self.write_if_large(output, errors)?;
+        self.write_if_large(outputs)?;
         Ok(more)
     }
 
     // Writes the buffers if one of them is large.
     fn write_if_large<O: Write, E: Write>(
         &mut self,
-        output: &mut Watched<O>,
-        errors: &mut Watched<E>,
+        outputs: &mut Outputs<O, E>,
     ) -> Result<(), StreamFault>
-        ensures ok { OnOk result (OnOutputs O.contents E.contents output.old errors.old output.new errors.new
-            (IsPrinted [] self.old self.new)) }
+        ensures ok { OnOk result (IsPrinted [] self.old self.new outputs.old.bytes outputs.new.bytes) }
         ensures last { self.new.last ≡ self.old.last }
-        ensures err { OnErr result (OnOutputs O.contents E.contents output.old errors.old output.new errors.new
-            (IsPrintedFirst [] self.old self.new)) }
-        ensures unfailed { OnOk result (output_failures output.new errors.new ≡ output_failures output.old errors.old) }
-        ensures blamed { IfErr result (λ fault. IsWriteBlamed fault (output_failures output.old errors.old) (output_failures output.new errors.new)) }
+        ensures err { OnErr result (IsPrintedFirst [] self.old self.new outputs.old.bytes outputs.new.bytes) }
+        ensures unfailed { OnOk result (outputs.new.failures ≡ outputs.old.failures) }
+        ensures blamed { IfErr result (λ fault. IsWriteBlamed fault outputs.old.failures outputs.new.failures) }
         ensures fault { IfErr result (λ fault. fault ≢ ReadFault) }
     {
         if self.printed.len() > WAITING || self.reported.len() > WAITING {
-            self.write_buffers(output, errors)?;
+            self.write_buffers(outputs)?;
         }
         Ok(())
     }
@@ -454,42 +418,33 @@ impl OutputBuffers {
     /// others are lost.
     pub(crate) fn write_buffers<O: Write, E: Write>(
         &mut self,
-        output: &mut Watched<O>,
-        errors: &mut Watched<E>,
+        outputs: &mut Outputs<O, E>,
     ) -> Result<(), StreamFault>
-        ensures written { OnOk result (OnOutputs O.contents E.contents output.old errors.old output.new errors.new
-            (IsWritten self.old)) }
-        ensures kept { NoneFell (output_failures output.old errors.old) (output_failures output.new errors.new) }
-        ensures unfailed { OnOk result (output_failures output.new errors.new ≡ output_failures output.old errors.old) }
-        ensures blamed { IfErr result (λ fault. IsWriteBlamed fault (output_failures output.old errors.old) (output_failures output.new errors.new)) }
+        ensures written { OnOk result (IsWritten self.old outputs.old.bytes outputs.new.bytes) }
+        ensures kept { NoneFell outputs.old.failures outputs.new.failures }
+        ensures unfailed { OnOk result (outputs.new.failures ≡ outputs.old.failures) }
+        ensures blamed { IfErr result (λ fault. IsWriteBlamed fault outputs.old.failures outputs.new.failures) }
         ensures fault { IfErr result (λ fault. fault ≡ WriteFault) }
-        ensures first { OnErr result (OnOutputs O.contents E.contents output.old errors.old output.new errors.new
-            (IsWrittenFirst self.old)) }
+        ensures first { OnErr result (IsWrittenFirst self.old outputs.old.bytes outputs.new.bytes) }
         ensures emptied { IsEmptied self.old self.new }
     {
-        let done = self.write_both(output, errors);
+        let done = self.write_both(outputs);
         self.printed.clear();
         self.reported.clear();
         done
     }
 
     // Writes both buffers. What the errors say is not lost if the output fails.
-    fn write_both<O: Write, E: Write>(
-        &self,
-        output: &mut Watched<O>,
-        errors: &mut Watched<E>,
-    ) -> Result<(), StreamFault>
-        ensures written { OnOk result (OnOutputs O.contents E.contents output.old errors.old output.new errors.new
-            (IsWritten self.now)) }
-        ensures kept { NoneFell (output_failures output.old errors.old) (output_failures output.new errors.new) }
-        ensures unfailed { OnOk result (output_failures output.new errors.new ≡ output_failures output.old errors.old) }
-        ensures blamed { IfErr result (λ fault. IsWriteBlamed fault (output_failures output.old errors.old) (output_failures output.new errors.new)) }
+    fn write_both<O: Write, E: Write>(&self, outputs: &mut Outputs<O, E>) -> Result<(), StreamFault>
+        ensures written { OnOk result (IsWritten self.now outputs.old.bytes outputs.new.bytes) }
+        ensures kept { NoneFell outputs.old.failures outputs.new.failures }
+        ensures unfailed { OnOk result (outputs.new.failures ≡ outputs.old.failures) }
+        ensures blamed { IfErr result (λ fault. IsWriteBlamed fault outputs.old.failures outputs.new.failures) }
         ensures fault { IfErr result (λ fault. fault ≡ WriteFault) }
-        ensures first { OnErr result (OnOutputs O.contents E.contents output.old errors.old output.new errors.new
-            (IsWrittenFirst self.now)) }
+        ensures first { OnErr result (IsWrittenFirst self.now outputs.old.bytes outputs.new.bytes) }
     {
-        let printed = write(output, &self.printed);
-        write(errors, &self.reported)?;
+        let printed = write(&mut outputs.output, &self.printed);
+        write(&mut outputs.errors, &self.reported)?;
         printed
     }
 

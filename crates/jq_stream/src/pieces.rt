@@ -9,7 +9,8 @@ ghost use Rattle.jq_filters.specs.Pieces.{piece_of};
 ghost use Rattle.jq_filters.specs.Running.{run_on};
 
 use crate::answers::OutputBuffers;
-use jq_devices::{StreamFault, Watched};
+use crate::streams::Outputs;
+use jq_devices::StreamFault;
 use jq_engine::Engine;
 use jq_filters::{Runner, no_inputs};
 use jq_pages::Piece;
@@ -38,14 +39,14 @@ pub fn run_piece(
 fn piece_of_run(alloc: Global, run: Engine<'_>, style: Style) -> Result<Piece, StreamFault>
     ensures { IfOk result (λ p. (r : Run Item) → IsRest run.entry r → piece_view p ≡ piece_of style r) }
 {
-    let mut output = Watched::new(Vec::new(alloc));
-    let mut errors = Watched::new(Vec::new(alloc));
+    let mut outputs = Outputs::new(Vec::new(alloc), Vec::new(alloc));
     let mut answers = OutputBuffers::new(alloc);
-    let halt = answers.run(alloc, run, style, &mut output, &mut errors)?;
-    answers.write_buffers(&mut output, &mut errors)?;
+    let halt = answers.run(alloc, run, style, &mut outputs)?;
+    answers.write_buffers(&mut outputs)?;
+    let (out, err) = outputs.into_devices();
     Ok(Piece {
-        out: output.into_device(),
-        err: errors.into_device(),
+        out,
+        err,
         last: answers.last,
         failed: answers.failed,
         halt,

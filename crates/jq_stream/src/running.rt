@@ -4,16 +4,14 @@ ghost use Rattle.jv_data.specs.Value.{null, array, items_of};
 ghost use Rattle.jv_data.specs.View.{view};
 ghost use Rattle.jq_starts.specs.Starts.{HasStarted, HasStartedAtMost};
 ghost use Rattle.jq_state.specs.Inputs.{inputs_of, fault_ending};
-ghost use Rattle.jq_devices.specs.Watched.{HasFailed, failures_of};
+ghost use Rattle.jq_devices.specs.Watched.{HasFailed};
 ghost use Rattle.jq_devices.specs.declared.faults.StreamFault.TheVariants.{Read as ReadFault, Write as WriteFault};
 ghost use Rattle.jq_filters.specs.Outcomes.{on_each, on_null, on_all};
 ghost use Rattle.jq_filters.specs.Runner.{job_of};
 ghost use Rattle.jq_filters.specs.Running.{run_on};
 ghost use Rattle.jq_stream.specs.Runs.{HasRun, HasStopped};
-ghost use Rattle.jq_stream.specs.Streams.{OnStreams};
-ghost use Rattle.jq_stream.specs.private.Outputs.{OnOutputs};
 ghost use Rattle.jq_stream.specs.Stopped.{IsOnePass, WritesFirst};
-ghost use Rattle.jq_stream.specs.Failures.{AnOutputHasFailed, output_failures};
+ghost use Rattle.jq_stream.specs.Failures.{AnOutputHasFailed};
 ghost use Rattle.jq_stream.specs.private.Blaming.{IsWriteBlamed};
 ghost use Rattle.jq_stream.specs.private.Gathering.{stop_ending};
 ghost use Rattle.jq_stream.specs.private.Once.{IsRunOnce, run_on_array, run_outcome};
@@ -24,7 +22,8 @@ use crate::answers::{OutputBuffers, Reached};
 use crate::feeding::feed_next;
 use crate::gathering::gather;
 use crate::reports::{fault_text, report_fault};
-use jq_devices::{Read, StreamFault, Watched, Write, read_buffer};
+use crate::streams::{Outputs, Streams};
+use jq_devices::{Read, StreamFault, Write, read_buffer};
 use jq_filters::{Mode, Runner, Settings, no_inputs};
 use jq_starts::Starts;
 use jq_state::inputs::Inputs;
@@ -47,30 +46,30 @@ pub fn run_stream<R: Read, O: Write, E: Write>(
     runner: &Runner<'_>,
     settings: Settings,
     starts: &mut Starts,
-    input: &mut Watched<R>,
-    output: &mut Watched<O>,
-    errors: &mut Watched<E>,
+    streams: &mut Streams<R, O, E>,
 ) -> Result<u8, StreamFault>
-    ensures ran { IfOk result (λ status. OnStreams R.remaining O.contents E.contents input.old output.old errors.old input.new output.new errors.new
-        (HasRun settings runner.now status)) }
-    ensures stopped { IfErr result (λ fault. OnStreams R.remaining O.contents E.contents input.old output.old errors.old input.new output.new errors.new
-        (HasStopped fault settings runner.now)) }
-    ensures one_pass { settings.mode ≡ OnEach → OnStreams R.remaining O.contents E.contents input.old output.old errors.old input.new output.new errors.new
-        (IsOnePass (job_of settings runner.now)) }
-    ensures read_failed { IfErr result (λ fault. fault ≡ ReadFault → HasFailed (failures_of input.old) (failures_of input.new)) }
-    ensures write_failed { IfErr result (λ fault. fault ≡ WriteFault → AnOutputHasFailed (output_failures output.old errors.old) (output_failures output.new errors.new)) }
-    ensures unread { settings.mode ≡ OnNull false → input.new ≡ input.old }
+    ensures ran { IfOk result (λ status. HasRun settings runner.now status streams.old.bytes streams.new.bytes) }
+    ensures stopped { IfErr result (λ fault. HasStopped fault settings runner.now streams.old.bytes streams.new.bytes) }
+    ensures one_pass { settings.mode ≡ OnEach → IsOnePass (job_of settings runner.now) streams.old.bytes streams.new.bytes }
+    ensures read_failed { IfErr result (λ fault. fault ≡ ReadFault → HasFailed streams.old.failures.input streams.new.failures.input) }
+    ensures write_failed { IfErr result (λ fault. fault ≡ WriteFault → AnOutputHasFailed streams.old.failures.outputs streams.new.failures.outputs) }
+    ensures unread { settings.mode ≡ OnNull false → streams.new.input ≡ streams.old.input }
 {
     match settings.mode {
-        Mode::OnEach => run_on_each(alloc, runner, settings, starts, input, output, errors),
-        Mode::OnNull { reads: true } => run_on_null(
-            alloc, runner, settings, starts, input, output, errors,
-        ),
+        Mode::OnEach => run_on_each(alloc, runner, settings, starts, streams),
+        Mode::OnNull { reads: true } => run_on_null(alloc, runner, settings, starts, streams),
         Mode::OnNull { reads: false } => {
             let inputs = no_inputs(alloc);
-            run_with(alloc, runner, settings, starts, inputs, output, errors)
+            run_with(
+                alloc,
+                runner,
+                settings,
+                starts,
+                inputs,
+                &mut streams.outputs,
+            )
         }
-        Mode::OnAll => run_on_all(alloc, runner, settings, starts, input, output, errors),
+        Mode::OnAll => run_on_all(alloc, runner, settings, starts, streams),
     }
 }
 
@@ -80,37 +79,31 @@ fn run_on_each<R: Read, O: Write, E: Write>(
     runner: &Runner<'_>,
     settings: Settings,
     starts: &mut Starts,
-    input: &mut Watched<R>,
-    output: &mut Watched<O>,
-    errors: &mut Watched<E>,
+    streams: &mut Streams<R, O, E>,
 ) -> Result<u8, StreamFault>
-    ensures ran { IfOk result (λ status. OnStreams R.remaining O.contents E.contents input.old output.old errors.old input.new output.new errors.new
-        (Runs on_each settings runner.now status)) }
-    ensures stopped { IfErr result (λ fault. OnStreams R.remaining O.contents E.contents input.old output.old errors.old input.new output.new errors.new
-        (Stops fault on_each settings runner.now)) }
-    ensures one_pass { OnStreams R.remaining O.contents E.contents input.old output.old errors.old input.new output.new errors.new
-        (IsOnePass (job_of settings runner.now)) }
-    ensures read_failed { IfErr result (λ fault. fault ≡ ReadFault → HasFailed (failures_of input.old) (failures_of input.new)) }
-    ensures write_failed { IfErr result (λ fault. fault ≡ WriteFault → AnOutputHasFailed (output_failures output.old errors.old) (output_failures output.new errors.new)) }
+    ensures ran { IfOk result (λ status. Runs on_each settings runner.now status streams.old.bytes streams.new.bytes) }
+    ensures stopped { IfErr result (λ fault. Stops fault on_each settings runner.now streams.old.bytes streams.new.bytes) }
+    ensures one_pass { IsOnePass (job_of settings runner.now) streams.old.bytes streams.new.bytes }
+    ensures read_failed { IfErr result (λ fault. fault ≡ ReadFault → HasFailed streams.old.failures.input streams.new.failures.input) }
+    ensures write_failed { IfErr result (λ fault. fault ≡ WriteFault → AnOutputHasFailed streams.old.failures.outputs streams.new.failures.outputs) }
 {
     let mut cutter = Cutter::new(alloc);
     let mut answers = OutputBuffers::new(alloc);
     let mut piece = read_buffer(alloc)?;
     loop {
-        let ended = feed_next(input, &mut piece, &mut cutter)?;
+        let ended = feed_next(&mut streams.input, &mut piece, &mut cutter)?;
         let reached = answers.answer_ready(
             alloc,
             runner,
             settings,
             starts,
             &mut cutter,
-            input.device().file(),
-            output,
-            errors,
+            streams.input.device().file(),
+            &mut streams.outputs,
         )?;
         match reached {
             Reached::All => {}
-            Reached::Fault(fault) => return report_fault(alloc, fault, errors),
+            Reached::Fault(fault) => return report_fault(alloc, fault, &mut streams.outputs.errors),
             Reached::Halt(status) => return Ok(status),
         }
         if ended {
@@ -125,30 +118,40 @@ fn run_on_null<R: Read, O: Write, E: Write>(
     runner: &Runner<'_>,
     settings: Settings,
     starts: &mut Starts,
-    input: &mut Watched<R>,
-    output: &mut Watched<O>,
-    errors: &mut Watched<E>,
+    streams: &mut Streams<R, O, E>,
 ) -> Result<u8, StreamFault>
-    ensures ran { IfOk result (λ status. OnStreams R.remaining O.contents E.contents input.old output.old errors.old input.new output.new errors.new
-        (Runs (on_null true) settings runner.now status)) }
-    ensures stopped { IfErr result (λ fault. OnStreams R.remaining O.contents E.contents input.old output.old errors.old input.new output.new errors.new
-        (Stops fault (on_null true) settings runner.now)) }
-    ensures read_failed { IfErr result (λ fault. fault ≡ ReadFault → HasFailed (failures_of input.old) (failures_of input.new)) }
-    ensures write_failed { IfErr result (λ fault. fault ≡ WriteFault → AnOutputHasFailed (output_failures output.old errors.old) (output_failures output.new errors.new)) }
+    ensures ran { IfOk result (λ status. Runs (on_null true) settings runner.now status streams.old.bytes streams.new.bytes) }
+    ensures stopped { IfErr result (λ fault. Stops fault (on_null true) settings runner.now streams.old.bytes streams.new.bytes) }
+    ensures read_failed { IfErr result (λ fault. fault ≡ ReadFault → HasFailed streams.old.failures.input streams.new.failures.input) }
+    ensures write_failed { IfErr result (λ fault. fault ≡ WriteFault → AnOutputHasFailed streams.old.failures.outputs streams.new.failures.outputs) }
 {
     let mut values = Vec::new(alloc);
-    match gather(alloc, input, &mut values) {
+    match gather(alloc, &mut streams.input, &mut values) {
         Ok(stop) => {
             let fault = inputs_fault(alloc, stop)?;
             let inputs = Inputs { values, fault };
-            run_with(alloc, runner, settings, starts, inputs, output, errors)
+            run_with(
+                alloc,
+                runner,
+                settings,
+                starts,
+                inputs,
+                &mut streams.outputs,
+            )
         }
         Err(StreamFault::Read) => {
             let inputs = Inputs {
                 values,
                 fault: None,
             };
-            run_with(alloc, runner, settings, starts, inputs, output, errors)?;
+            run_with(
+                alloc,
+                runner,
+                settings,
+                starts,
+                inputs,
+                &mut streams.outputs,
+            )?;
             Err(StreamFault::Read)
         }
         Err(fault) => Err(fault),
@@ -162,28 +165,16 @@ pub(crate) fn run_with<O: Write, E: Write>(
     settings: Settings,
     starts: &mut Starts,
     inputs: Inputs,
-    output: &mut Watched<O>,
-    errors: &mut Watched<E>,
+    outputs: &mut Outputs<O, E>,
 ) -> Result<u8, StreamFault>
-    ensures ok { IfOk result (λ status. OnOutputs O.contents E.contents output.old errors.old output.new errors.new
-        (IsRunOnce settings (run_on runner.now (inputs_of inputs) null) status)) }
-    ensures err { OnErr result (OnOutputs O.contents E.contents output.old errors.old output.new errors.new
-        (WritesFirst (run_outcome settings (run_on runner.now (inputs_of inputs) null)))) }
-    ensures unfailed { OnOk result (output_failures output.new errors.new ≡ output_failures output.old errors.old) }
-    ensures blamed { IfErr result (λ fault. IsWriteBlamed fault (output_failures output.old errors.old) (output_failures output.new errors.new)) }
+    ensures ok { IfOk result (λ status. IsRunOnce settings (run_on runner.now (inputs_of inputs) null) status outputs.old.bytes outputs.new.bytes) }
+    ensures err { OnErr result (WritesFirst (run_outcome settings (run_on runner.now (inputs_of inputs) null)) outputs.old.bytes outputs.new.bytes) }
+    ensures unfailed { OnOk result (outputs.new.failures ≡ outputs.old.failures) }
+    ensures blamed { IfErr result (λ fault. IsWriteBlamed fault outputs.old.failures outputs.new.failures) }
     ensures fault { IfErr result (λ fault. fault ≢ ReadFault) }
     ensures started { HasStarted 1 starts.old starts.new }
 {
-    run_once(
-        alloc,
-        runner,
-        settings,
-        starts,
-        inputs,
-        Val::Null,
-        output,
-        errors,
-    )
+    run_once(alloc, runner, settings, starts, inputs, Val::Null, outputs)
 }
 
 // The error of `inputs` after the last input.
@@ -202,23 +193,33 @@ fn run_on_all<R: Read, O: Write, E: Write>(
     runner: &Runner<'_>,
     settings: Settings,
     starts: &mut Starts,
-    input: &mut Watched<R>,
-    output: &mut Watched<O>,
-    errors: &mut Watched<E>,
+    streams: &mut Streams<R, O, E>,
 ) -> Result<u8, StreamFault>
-    ensures ran { IfOk result (λ status. OnStreams R.remaining O.contents E.contents input.old output.old errors.old input.new output.new errors.new
-        (Runs on_all settings runner.now status)) }
-    ensures stopped { IfErr result (λ fault. OnStreams R.remaining O.contents E.contents input.old output.old errors.old input.new output.new errors.new
-        (Stops fault on_all settings runner.now)) }
-    ensures read_failed { IfErr result (λ fault. fault ≡ ReadFault → HasFailed (failures_of input.old) (failures_of input.new)) }
-    ensures write_failed { IfErr result (λ fault. fault ≡ WriteFault → AnOutputHasFailed (output_failures output.old errors.old) (output_failures output.new errors.new)) }
+    ensures ran { IfOk result (λ status. Runs on_all settings runner.now status streams.old.bytes streams.new.bytes) }
+    ensures stopped { IfErr result (λ fault. Stops fault on_all settings runner.now streams.old.bytes streams.new.bytes) }
+    ensures read_failed { IfErr result (λ fault. fault ≡ ReadFault → HasFailed streams.old.failures.input streams.new.failures.input) }
+    ensures write_failed { IfErr result (λ fault. fault ≡ WriteFault → AnOutputHasFailed streams.old.failures.outputs streams.new.failures.outputs) }
 {
     let mut values = Vec::new(alloc);
-    match gather(alloc, input, &mut values) {
-        Ok(Some(fault)) => report_fault(alloc, fault, errors),
-        Ok(None) => run_on_array(alloc, runner, settings, starts, values, output, errors),
+    match gather(alloc, &mut streams.input, &mut values) {
+        Ok(Some(fault)) => report_fault(alloc, fault, &mut streams.outputs.errors),
+        Ok(None) => run_on_array(
+            alloc,
+            runner,
+            settings,
+            starts,
+            values,
+            &mut streams.outputs,
+        ),
         Err(StreamFault::Read) => {
-            run_on_array(alloc, runner, settings, starts, values, output, errors)?;
+            run_on_array(
+                alloc,
+                runner,
+                settings,
+                starts,
+                values,
+                &mut streams.outputs,
+            )?;
             Err(StreamFault::Read)
         }
         Err(fault) => Err(fault),
@@ -232,24 +233,19 @@ pub(crate) fn run_on_array<O: Write, E: Write>(
     settings: Settings,
     starts: &mut Starts,
     values: Vec<Val>,
-    output: &mut Watched<O>,
-    errors: &mut Watched<E>,
+    outputs: &mut Outputs<O, E>,
 ) -> Result<u8, StreamFault>
-    ensures ok { IfOk result (λ status. OnOutputs O.contents E.contents output.old errors.old output.new errors.new
-        (IsRunOnce settings (run_on_array runner.now (map view values.items)) status)) }
-    ensures err { OnErr result (OnOutputs O.contents E.contents output.old errors.old output.new errors.new
-        (WritesFirst (run_outcome settings (run_on_array runner.now (map view values.items))))) }
-    ensures unfailed { OnOk result (output_failures output.new errors.new ≡ output_failures output.old errors.old) }
-    ensures blamed { IfErr result (λ fault. IsWriteBlamed fault (output_failures output.old errors.old) (output_failures output.new errors.new)) }
+    ensures ok { IfOk result (λ status. IsRunOnce settings (run_on_array runner.now (map view values.items)) status outputs.old.bytes outputs.new.bytes) }
+    ensures err { OnErr result (WritesFirst (run_outcome settings (run_on_array runner.now (map view values.items))) outputs.old.bytes outputs.new.bytes) }
+    ensures unfailed { OnOk result (outputs.new.failures ≡ outputs.old.failures) }
+    ensures blamed { IfErr result (λ fault. IsWriteBlamed fault outputs.old.failures outputs.new.failures) }
     ensures fault { IfErr result (λ fault. fault ≢ ReadFault) }
     ensures started { OnOk result (HasStarted 1 starts.old starts.new) }
     ensures at_most { OnErr result (HasStartedAtMost 1 starts.old starts.new) }
 {
     let inputs = no_inputs(alloc);
     let value = array_value(alloc, values)?;
-    run_once(
-        alloc, runner, settings, starts, inputs, value, output, errors,
-    )
+    run_once(alloc, runner, settings, starts, inputs, value, outputs)
 }
 
 fn array_value(alloc: Global, values: Vec<Val>) -> Result<Val, NoMemory>
@@ -266,22 +262,19 @@ fn run_once<O: Write, E: Write>(
     starts: &mut Starts,
     inputs: Inputs,
     value: Val,
-    output: &mut Watched<O>,
-    errors: &mut Watched<E>,
+    outputs: &mut Outputs<O, E>,
 ) -> Result<u8, StreamFault>
-    ensures ok { IfOk result (λ status. OnOutputs O.contents E.contents output.old errors.old output.new errors.new
-        (IsRunOnce settings (run_on runner.now (inputs_of inputs) (view value)) status)) }
-    ensures err { OnErr result (OnOutputs O.contents E.contents output.old errors.old output.new errors.new
-        (WritesFirst (run_outcome settings (run_on runner.now (inputs_of inputs) (view value))))) }
-    ensures unfailed { OnOk result (output_failures output.new errors.new ≡ output_failures output.old errors.old) }
-    ensures blamed { IfErr result (λ fault. IsWriteBlamed fault (output_failures output.old errors.old) (output_failures output.new errors.new)) }
+    ensures ok { IfOk result (λ status. IsRunOnce settings (run_on runner.now (inputs_of inputs) (view value)) status outputs.old.bytes outputs.new.bytes) }
+    ensures err { OnErr result (WritesFirst (run_outcome settings (run_on runner.now (inputs_of inputs) (view value))) outputs.old.bytes outputs.new.bytes) }
+    ensures unfailed { OnOk result (outputs.new.failures ≡ outputs.old.failures) }
+    ensures blamed { IfErr result (λ fault. IsWriteBlamed fault outputs.old.failures outputs.new.failures) }
     ensures fault { IfErr result (λ fault. fault ≢ ReadFault) }
     ensures started { HasStarted 1 starts.old starts.new }
 {
     let engine = runner.start(alloc, starts, inputs, value)?;
     let mut answers = OutputBuffers::new(alloc);
-    let done = answers.run(alloc, engine, settings.style, output, errors);
-    answers.write_buffers(output, errors)?;
+    let done = answers.run(alloc, engine, settings.style, outputs);
+    answers.write_buffers(outputs)?;
     let status = answers.status(settings.exit);
     Ok(done?.unwrap_or(status))
 }

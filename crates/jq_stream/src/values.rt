@@ -5,13 +5,13 @@ ghost use Rattle.jq_starts.specs.Starts.{HasStarted, HasStartedAtMost};
 ghost use Rattle.jq_filters.specs.Outcomes.{first_halt, on_each};
 ghost use Rattle.jq_filters.specs.Present.{values_outcome, run_count};
 ghost use Rattle.jq_filters.specs.Runner.{job_of, mode_of};
-ghost use Rattle.jq_stream.specs.private.Outputs.{OnOutputs};
 ghost use Rattle.jq_stream.specs.private.Answering.{IsAnsweredToHalt, runs_on};
 ghost use Rattle.jq_stream.specs.private.Valued.{HasRunOn, runs_by_mode};
 
 use crate::answers::OutputBuffers;
 use crate::running::{run_on_array, run_with};
-use jq_devices::{StreamFault, Watched, Write};
+use crate::streams::Outputs;
+use jq_devices::{StreamFault, Write};
 use jq_filters::{Mode, Runner, Settings, no_inputs};
 use jq_starts::Starts;
 use jq_starts::laws::starts_add_up;
@@ -45,23 +45,17 @@ pub fn run_values(
     ensures started { OnOk result (HasStarted (run_count (mode_of settings.mode) (job_of settings runner.now) (map view values.now)) starts.old starts.new) }
     ensures at_most { OnErr result (HasStartedAtMost (run_count (mode_of settings.mode) (job_of settings runner.now) (map view values.now)) starts.old starts.new) }
 {
-    let mut output = Watched::new(Vec::new(alloc));
-    let mut errors = Watched::new(Vec::new(alloc));
-    match write_values(
-        alloc,
-        runner,
-        settings,
-        starts,
-        values,
-        &mut output,
-        &mut errors,
-    ) {
-        Ok((status, runs)) => Ok(Written {
-            output: output.into_device(),
-            errors: errors.into_device(),
-            status,
-            runs,
-        }),
+    let mut outputs = Outputs::new(Vec::new(alloc), Vec::new(alloc));
+    match write_values(alloc, runner, settings, starts, values, &mut outputs) {
+        Ok((status, runs)) => {
+            let (output, errors) = outputs.into_devices();
+            Ok(Written {
+                output,
+                errors,
+                status,
+                runs,
+            })
+        }
         // A write to a vector fails only if memory runs out.
         Err(_) => Err(NoMemory),
     }
@@ -74,30 +68,28 @@ fn write_values<O: Write, E: Write>(
     settings: Settings,
     starts: &mut Starts,
     values: &[Val],
-    output: &mut Watched<O>,
-    errors: &mut Watched<E>,
+    outputs: &mut Outputs<O, E>,
 ) -> Result<(u8, u64), StreamFault>
-    ensures ran { IfOk result (λ done. OnOutputs O.contents E.contents output.old errors.old output.new errors.new
-        (HasRunOn (mode_of settings.mode) settings runner.now (map view values.now) done)) }
+    ensures ran { IfOk result (λ done. HasRunOn (mode_of settings.mode) settings runner.now (map view values.now) done outputs.old.bytes outputs.new.bytes) }
     ensures started { OnOk result (HasStarted (runs_by_mode (mode_of settings.mode) (job_of settings runner.now) (map view values.now)) starts.old starts.new) }
     ensures at_most { OnErr result (HasStartedAtMost (runs_by_mode (mode_of settings.mode) (job_of settings runner.now) (map view values.now)) starts.old starts.new) }
 {
     let status = match settings.mode {
-        Mode::OnEach => return write_each(alloc, runner, settings, starts, values, output, errors),
+        Mode::OnEach => return write_each(alloc, runner, settings, starts, values, outputs),
         Mode::OnNull { reads: true } => {
             let inputs = Inputs {
                 values: copy_all(alloc, values)?,
                 fault: None,
             };
-            run_with(alloc, runner, settings, starts, inputs, output, errors)?
+            run_with(alloc, runner, settings, starts, inputs, outputs)?
         }
         Mode::OnNull { reads: false } => {
             let inputs = no_inputs(alloc);
-            run_with(alloc, runner, settings, starts, inputs, output, errors)?
+            run_with(alloc, runner, settings, starts, inputs, outputs)?
         }
         Mode::OnAll => {
             let values = copy_all(alloc, values)?;
-            run_on_array(alloc, runner, settings, starts, values, output, errors)?
+            run_on_array(alloc, runner, settings, starts, values, outputs)?
         }
     };
     Ok((status, 1))
@@ -110,11 +102,9 @@ fn write_each<O: Write, E: Write>(
     settings: Settings,
     starts: &mut Starts,
     values: &[Val],
-    output: &mut Watched<O>,
-    errors: &mut Watched<E>,
+    outputs: &mut Outputs<O, E>,
 ) -> Result<(u8, u64), StreamFault>
-    ensures ran { IfOk result (λ done. OnOutputs O.contents E.contents output.old errors.old output.new errors.new
-        (HasRunOn on_each settings runner.now (map view values.now) done)) }
+    ensures ran { IfOk result (λ done. HasRunOn on_each settings runner.now (map view values.now) done outputs.old.bytes outputs.new.bytes) }
     ensures started { OnOk result (HasStarted (run_count on_each (job_of settings runner.now) (map view values.now)) starts.old starts.new) }
     ensures at_most { OnErr result (HasStartedAtMost (run_count on_each (job_of settings runner.now) (map view values.now)) starts.old starts.new) }
 {
@@ -126,10 +116,9 @@ fn write_each<O: Write, E: Write>(
         starts,
         values,
         &mut answers,
-        output,
-        errors,
+        outputs,
     )?;
-    answers.write_buffers(output, errors)?;
+    answers.write_buffers(outputs)?;
     let status = answers.status(settings.exit);
     Ok((halt.unwrap_or(status), runs))
 }
@@ -142,11 +131,9 @@ fn answer_each<O: Write, E: Write>(
     starts: &mut Starts,
     values: &[Val],
     answers: &mut OutputBuffers,
-    output: &mut Watched<O>,
-    errors: &mut Watched<E>,
+    outputs: &mut Outputs<O, E>,
 ) -> Result<(Option<u8>, u64), StreamFault>
-    ensures answered { OnOk result (OnOutputs O.contents E.contents output.old errors.old output.new errors.new
-        (IsAnsweredToHalt settings runner.now (map view values.now) answers.old answers.new)) }
+    ensures answered { OnOk result (IsAnsweredToHalt settings runner.now (map view values.now) answers.old answers.new outputs.old.bytes outputs.new.bytes) }
     ensures halt { IfOk result (λ done. done.0 ≡ first_halt (runs_on (job_of settings runner.now) (map view values.now))) }
     ensures runs { IfOk result (λ done. done.1 ≡ run_count on_each (job_of settings runner.now) (map view values.now)) }
     ensures started { OnOk result (HasStarted (run_count on_each (job_of settings runner.now) (map view values.now)) starts.old starts.new) }
@@ -155,7 +142,7 @@ fn answer_each<O: Write, E: Write>(
     starts_add_up();
     for (i, value) in values.iter().enumerate() {
         let value = value.copy()?;
-        let halt = answers.answer(alloc, runner, settings, starts, value, output, errors)?;
+        let halt = answers.answer(alloc, runner, settings, starts, value, outputs)?;
         if let Some(status) = halt {
             return Ok((Some(status), i as u64 + 1));
         }

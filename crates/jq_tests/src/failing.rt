@@ -4,7 +4,7 @@ use crate::starting::compile_under;
 use jq_devices::{Read, StreamFault, Watched};
 use jq_filters::Filter;
 use jq_starts::Starts;
-use jq_stream::run_stream;
+use jq_stream::{Outputs, Streams, run_stream};
 use std::alloc::Global;
 use std::process::Abort;
 use std::test::Fail;
@@ -71,57 +71,35 @@ pub(crate) const ROWS: [Row; 6] = [
     },
 ];
 
-// The writers of a run, of which one may fail or take few bytes.
-#[derive(Drop)]
-struct Writers {
-    output: Watched<Kept>,
-    errors: Watched<Kept>,
+// Outputs that take everything.
+fn sound(alloc: Global) -> Outputs<Kept, Kept> {
+    let output = Kept::new(alloc, usize::MAX, 0);
+    Outputs::new(output, Kept::new(alloc, usize::MAX, 0))
 }
 
-impl Writers {
-    fn new(output: Kept, errors: Kept) -> Writers {
-        Writers {
-            output: Watched::new(output),
-            errors: Watched::new(errors),
-        }
-    }
-
-    // Two that take everything.
-    fn sound(alloc: Global) -> Writers {
-        let output = Kept::new(alloc, usize::MAX, 0);
-        Writers::new(output, Kept::new(alloc, usize::MAX, 0))
-    }
-
-    fn out(&self) -> &[u8] {
-        self.output.device().bytes()
-    }
-
-    fn err(&self) -> &[u8] {
-        self.errors.device().bytes()
-    }
-
-    // They hold these bytes.
-    fn check(&self, rt: &(impl Abort + AllocGlobal), named: &str, (out, err): (&str, &str)) {
-        assert_eq!(rt; self.out(), out.as_bytes(), "{named}");
-        assert_eq!(rt; self.err(), err.as_bytes(), "{named}");
-    }
+// The outputs hold these bytes.
+fn check_outputs(
+    rt: &(impl Abort + AllocGlobal),
+    outputs: &Outputs<Kept, Kept>,
+    named: &str,
+    (out, err): (&str, &str),
+) {
+    assert_eq!(rt; outputs.output.device().bytes(), out.as_bytes(), "{named}");
+    assert_eq!(rt; outputs.errors.device().bytes(), err.as_bytes(), "{named}");
 }
 
 fn run<R: Read>(
     alloc: Global,
     starts: &mut Starts,
     compiled: &Filter,
-    input: &mut Watched<R>,
-    writers: &mut Writers,
+    streams: &mut Streams<R, Kept, Kept>,
 ) -> Result<u8, StreamFault> {
     run_stream(
         alloc,
         &compiled.runner(),
         compiled.settings(),
         starts,
-        input,
-        &mut writers.output,
-        &mut writers.errors,
+        streams,
     )
 }
 
@@ -160,9 +138,8 @@ fn check_reader(
     (flag, compiled): (&str, &Filter),
     (most, fails): (usize, usize),
 ) -> Result<(), Fail> {
-    let mut input = Watched::new(Bytes::new(TEXT, most, fails));
-    let mut writers = Writers::sound(rt.alloc());
-    let result = run(rt.alloc(), starts, compiled, &mut input, &mut writers);
+    let mut streams = Streams::new(Bytes::new(TEXT, most, fails), sound(rt.alloc()));
+    let result = run(rt.alloc(), starts, compiled, &mut streams);
 
     // The call after the one that returns no bytes is never made.
     let is_made = fails.saturating_sub(2).saturating_mul(most) < TEXT.len();
@@ -171,14 +148,14 @@ fn check_reader(
     let named = format!(in rt.alloc(); "{flag}: {most} bytes a call, call {fails} fails")?;
     if is_made {
         assert_eq!(rt; result, Err(StreamFault::Read), "{named}");
-        assert_eq!(rt; input.failures(), 1, "{named}");
-        assert_eq!(rt; input.device().calls(), fails, "{named}");
+        assert_eq!(rt; streams.input.failures(), 1, "{named}");
+        assert_eq!(rt; streams.input.device().calls(), fails, "{named}");
     } else {
         assert_eq!(rt; result, Ok(0), "{named}");
-        assert_eq!(rt; input.failures(), 0, "{named}");
+        assert_eq!(rt; streams.input.failures(), 0, "{named}");
     }
     let out = wanted(rt.alloc(), flag, count)?;
-    writers.check(rt, named.as_str(), (out.as_str(), ""));
+    check_outputs(rt, &streams.outputs, named.as_str(), (out.as_str(), ""));
     Ok(())
 }
 
@@ -202,12 +179,11 @@ fn readers_that_fail(rt: HostRuntime) -> Result<(), Fail> {
 fn readers_that_are_not_read(rt: HostRuntime) -> Result<(), Fail> {
     let mut starts = Starts::new(&rt);
     let compiled = compile_under(rt.alloc(), "-n", "1")?;
-    let mut input = Watched::new(Bytes::new(TEXT, 1, 1));
-    let mut writers = Writers::sound(rt.alloc());
-    let result = run(rt.alloc(), &mut starts, &compiled, &mut input, &mut writers);
+    let mut streams = Streams::new(Bytes::new(TEXT, 1, 1), sound(rt.alloc()));
+    let result = run(rt.alloc(), &mut starts, &compiled, &mut streams);
     assert_eq!(rt; result, Ok(0));
-    assert_eq!(rt; input.device().calls(), 0);
-    writers.check(&rt, "-n 1", ("1\n", ""));
+    assert_eq!(rt; streams.input.device().calls(), 0);
+    check_outputs(&rt, &streams.outputs, "-n 1", ("1\n", ""));
     Ok(())
 }
 
@@ -221,12 +197,11 @@ fn readers_without_an_end(rt: HostRuntime) -> Result<(), Fail> {
         ("-s", ".", "[]\n"),
     ] {
         let compiled = compile_under(rt.alloc(), flag, filter)?;
-        let mut input = Watched::new(Spaces::new(9));
-        let mut writers = Writers::sound(rt.alloc());
-        let result = run(rt.alloc(), &mut starts, &compiled, &mut input, &mut writers);
+        let mut streams = Streams::new(Spaces::new(9), sound(rt.alloc()));
+        let result = run(rt.alloc(), &mut starts, &compiled, &mut streams);
         assert_eq!(rt; result, Err(StreamFault::Read), "{flag}");
-        assert_eq!(rt; input.device().calls(), 9, "{flag}");
-        writers.check(&rt, flag, (out, ""));
+        assert_eq!(rt; streams.input.device().calls(), 9, "{flag}");
+        check_outputs(&rt, &streams.outputs, flag, (out, ""));
     }
     Ok(())
 }
@@ -238,10 +213,11 @@ fn run_row(
     starts: &mut Starts,
     (row, compiled): (&Row, &Filter),
     most: usize,
-    writers: &mut Writers,
-) -> Result<u8, StreamFault> {
-    let mut input = Watched::new(Bytes::new(row.text, most, 0));
-    run(alloc, starts, compiled, &mut input, writers)
+    outputs: Outputs<Kept, Kept>,
+) -> (Result<u8, StreamFault>, Outputs<Kept, Kept>) {
+    let mut streams = Streams::new(Bytes::new(row.text, most, 0), outputs);
+    let result = run(alloc, starts, compiled, &mut streams);
+    (result, streams.outputs)
 }
 
 // However few bytes a reader gives and a writer takes, the same is written.
@@ -254,10 +230,16 @@ fn few_bytes_in_a_call(rt: HostRuntime) -> Result<(), Fail> {
         for most in [1, 2, 5, 65_536] {
             for taken in [1, 2, usize::MAX] {
                 let errors = Kept::new(alloc, taken, 0);
-                let mut writers = Writers::new(Kept::new(alloc, taken, 0), errors);
-                let result = run_row(alloc, &mut starts, (row, &compiled), most, &mut writers);
+                let outputs = Outputs::new(Kept::new(alloc, taken, 0), errors);
+                let (result, outputs) = run_row(
+                    alloc,
+                    &mut starts,
+                    (row, &compiled),
+                    most,
+                    outputs,
+                );
                 assert_eq!(rt; result, Ok(row.status), "{}", row.filter);
-                writers.check(&rt, row.filter, (row.out, row.err));
+                check_outputs(&rt, &outputs, row.filter, (row.out, row.err));
             }
         }
     }
@@ -289,28 +271,28 @@ fn check_writers(
     most: usize,
 ) -> Result<(), Fail> {
     let alloc = rt.alloc();
-    let mut writers = Writers::sound(alloc);
-    let _status = run_row(alloc, starts, (row, compiled), most, &mut writers)?;
+    let (result, outputs) = run_row(alloc, starts, (row, compiled), most, sound(alloc));
+    let _status = result?;
     let (out_calls, err_calls) = (
-        writers.output.device().calls(),
-        writers.errors.device().calls(),
+        outputs.output.device().calls(),
+        outputs.errors.device().calls(),
     );
     assert!(rt; out_calls > 0 || row.out.is_empty(), "{}", row.filter);
     assert!(rt; err_calls > 0 || row.err.is_empty(), "{}", row.filter);
     for fails in 1..=out_calls {
         let errors = Kept::new(alloc, usize::MAX, 0);
-        let mut writers = Writers::new(Kept::new(alloc, usize::MAX, fails), errors);
-        let result = run_row(alloc, starts, (row, compiled), most, &mut writers);
+        let outputs = Outputs::new(Kept::new(alloc, usize::MAX, fails), errors);
+        let (result, outputs) = run_row(alloc, starts, (row, compiled), most, outputs);
         assert_eq!(rt; result, Err(StreamFault::Write), "{}", row.filter);
-        let devices = (&writers.output, &writers.errors);
+        let devices = (&outputs.output, &outputs.errors);
         check_failed(rt, row, fails, devices, (row.out, row.err));
     }
     for fails in 1..=err_calls {
         let errors = Kept::new(alloc, usize::MAX, fails);
-        let mut writers = Writers::new(Kept::new(alloc, usize::MAX, 0), errors);
-        let result = run_row(alloc, starts, (row, compiled), most, &mut writers);
+        let outputs = Outputs::new(Kept::new(alloc, usize::MAX, 0), errors);
+        let (result, outputs) = run_row(alloc, starts, (row, compiled), most, outputs);
         assert_eq!(rt; result, Err(StreamFault::Write), "{}", row.filter);
-        let devices = (&writers.errors, &writers.output);
+        let devices = (&outputs.errors, &outputs.output);
         check_failed(rt, row, fails, devices, (row.err, row.out));
     }
     Ok(())
@@ -335,13 +317,13 @@ fn writers_that_take_nothing(rt: HostRuntime) -> Result<(), Fail> {
     let mut starts = Starts::new(&rt);
     for row in &ROWS {
         let compiled = compile_under(alloc, row.flag, row.filter)?;
-        let mut writers = Writers::new(Kept::new(alloc, 0, 0), Kept::new(alloc, 0, 0));
-        let result = run_row(alloc, &mut starts, (row, &compiled), 65_536, &mut writers);
+        let outputs = Outputs::new(Kept::new(alloc, 0, 0), Kept::new(alloc, 0, 0));
+        let (result, outputs) = run_row(alloc, &mut starts, (row, &compiled), 65_536, outputs);
         assert_eq!(rt; result, Err(StreamFault::Write), "{}", row.filter);
-        writers.check(&rt, row.filter, ("", ""));
-        let calls = writers.output.device().calls();
+        check_outputs(&rt, &outputs, row.filter, ("", ""));
+        let calls = outputs.output.device().calls();
         assert!(rt; calls <= 1, "{}: {calls} calls", row.filter);
-        let calls = writers.errors.device().calls();
+        let calls = outputs.errors.device().calls();
         assert!(rt; calls <= 1, "{}: {calls} calls", row.filter);
     }
     Ok(())
@@ -359,13 +341,14 @@ fn lines_for_a_writer_that_fails(rt: HostRuntime) -> Result<(), Fail> {
         }
     }
     let compiled = compile_under(alloc, "", ".")?;
-    let mut input = Watched::new(Bytes::new(lines.as_slice(), usize::MAX, 0));
+    let input = Bytes::new(lines.as_slice(), usize::MAX, 0);
     let errors = Kept::new(alloc, usize::MAX, 0);
-    let mut writers = Writers::new(Kept::new(alloc, usize::MAX, 1), errors);
-    let result = run(alloc, &mut starts, &compiled, &mut input, &mut writers);
+    let outputs = Outputs::new(Kept::new(alloc, usize::MAX, 1), errors);
+    let mut streams = Streams::new(input, outputs);
+    let result = run(alloc, &mut starts, &compiled, &mut streams);
     assert_eq!(rt; result, Err(StreamFault::Write));
-    let given = input.device().given();
+    let given = streams.input.device().given();
     assert!(rt; given <= 65_536, "{given} bytes were read");
-    writers.check(&rt, "lines", ("", ""));
+    check_outputs(&rt, &streams.outputs, "lines", ("", ""));
     Ok(())
 }

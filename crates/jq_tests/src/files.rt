@@ -4,9 +4,9 @@ ghost use Rattle.std.specs.declared.option.Option.{Option};
 
 use crate::fakes::Compared;
 use crate::starting::compile_under;
-use jq_devices::{Opener, Read, StreamFault, UnnamedFiles, Watched};
+use jq_devices::{Opener, Read, StreamFault, UnnamedFiles};
 use jq_starts::Starts;
-use jq_stream::run_stream;
+use jq_stream::{Outputs, Streams, run_stream};
 use std::alloc::Global;
 use std::io::ErrorKind;
 use std::test::Fail;
@@ -131,20 +131,19 @@ fn runs_over_files_that_fail(rt: HostRuntime) -> Result<(), Fail> {
             ("-s", ".", array),
         ] {
             let compiled = compile_under(alloc, flag, filter)?;
-            let mut output = Watched::new(Compared::new(out));
-            let mut errors = Watched::new(Compared::new(""));
+            let files = UnnamedFiles::new(&memory).named(words(alloc, row)?);
+            let outputs = Outputs::new(Compared::new(out), Compared::new(""));
+            let mut streams = Streams::new(files, outputs);
             let result = run_stream(
                 alloc,
                 &compiled.runner(),
                 compiled.settings(),
                 &mut starts,
-                &mut Watched::new(UnnamedFiles::new(&memory).named(words(alloc, row)?)),
-                &mut output,
-                &mut errors,
+                &mut streams,
             );
             assert_eq!(rt; result, Err(StreamFault::Read), "{flag} {row}");
-            assert!(rt; output.device().is_whole(), "{flag} {row}");
-            assert!(rt; errors.device().is_whole(), "{flag} {row}");
+            assert!(rt; streams.outputs.output.device().is_whole(), "{flag} {row}");
+            assert!(rt; streams.outputs.errors.device().is_whole(), "{flag} {row}");
         }
     }
     Ok(())

@@ -12,7 +12,7 @@ use jq_engine::{Engine, Turn};
 use jq_filters::Filter;
 use jq_session::{Follow, Refusal, Session};
 use jq_starts::Starts;
-use jq_stream::run_stream;
+use jq_stream::{Outputs, Streams, run_stream};
 use jv_data::{NoMemory, Val};
 use std::alloc::{AllocError, Global};
 use std::process::Abort;
@@ -213,19 +213,16 @@ fn run_row(
     starts: &mut Starts,
     (row, compiled): (&Row, &Filter),
 ) -> Result<u8, StreamFault> {
-    let mut input = Watched::new(Bytes::new(row.text, 5, 0));
-    let mut output = Watched::new(Compared::new(row.out));
-    let mut errors = Watched::new(Compared::new(row.err));
+    let outputs = Outputs::new(Compared::new(row.out), Compared::new(row.err));
+    let mut streams = Streams::new(Bytes::new(row.text, 5, 0), outputs);
     let result = run_stream(
         rt.alloc(),
         &compiled.runner(),
         compiled.settings(),
         starts,
-        &mut input,
-        &mut output,
-        &mut errors,
+        &mut streams,
     );
-    let (output, errors) = (output.into_device(), errors.into_device());
+    let (output, errors) = streams.outputs.into_devices();
     assert!(rt; output.is_front(), "output of {}", row.filter);
     assert!(rt; errors.is_front(), "errors of {}", row.filter);
     if result.is_ok() {

@@ -1,10 +1,10 @@
 // Damaged texts in pieces of random sizes: what a run writes does not depend on the pieces.
 use crate::fakes::{Bytes, Kept};
 use crate::starting::compile_under;
-use jq_devices::{Read, StreamFault, Watched};
+use jq_devices::{Read, StreamFault};
 use jq_filters::Filter;
 use jq_starts::Starts;
-use jq_stream::run_stream;
+use jq_stream::{Outputs, Streams, run_stream};
 use std::alloc::Global;
 use std::process::Abort;
 use std::test::Fail;
@@ -135,26 +135,23 @@ fn damaged(alloc: Global, random: &mut Random) -> Result<Vec<u8>, Fail> {
 #[derive(Drop)]
 struct Ran {
     result: Result<u8, StreamFault>,
-    output: Watched<Kept>,
-    errors: Watched<Kept>,
+    outputs: Outputs<Kept, Kept>,
 }
 
 fn run<R: Read + Drop>(alloc: Global, starts: &mut Starts, compiled: &Filter, input: R) -> Ran {
-    let mut output = Watched::new(Kept::new(alloc, usize::MAX, 0));
-    let mut errors = Watched::new(Kept::new(alloc, usize::MAX, 0));
+    let output = Kept::new(alloc, usize::MAX, 0);
+    let outputs = Outputs::new(output, Kept::new(alloc, usize::MAX, 0));
+    let mut streams = Streams::new(input, outputs);
     let result = run_stream(
         alloc,
         &compiled.runner(),
         compiled.settings(),
         starts,
-        &mut Watched::new(input),
-        &mut output,
-        &mut errors,
+        &mut streams,
     );
     Ran {
         result,
-        output,
-        errors,
+        outputs: streams.outputs,
     }
 }
 
@@ -179,9 +176,9 @@ fn check(
     };
     let cut = run(alloc, starts, compiled, pieces);
     assert_eq!(rt; cut.result, whole.result, "{text:?} in pieces");
-    let (found, wanted) = (cut.output.device(), whole.output.device());
+    let (found, wanted) = (cut.outputs.output.device(), whole.outputs.output.device());
     assert_eq!(rt; found.bytes(), wanted.bytes(), "{text:?} in pieces");
-    let (found, wanted) = (cut.errors.device(), whole.errors.device());
+    let (found, wanted) = (cut.outputs.errors.device(), whole.outputs.errors.device());
     assert_eq!(rt; found.bytes(), wanted.bytes(), "{text:?} in pieces");
     Ok(())
 }

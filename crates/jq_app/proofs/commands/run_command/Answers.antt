@@ -1,10 +1,7 @@
 use Rattle.std.proofs.Common.{map, refl, string_bytes}
 use Rattle.jq_cli.specs.Configuration.{shown}
 use Rattle.jq_cli.specs.declared.help.TheConstants.{HELP_TEXT, VERSION_TEXT}
-use Rattle.jq_devices.specs.Watched.{device_of}
-use Rattle.jq_stream.specs.Streams.{streams_of}
 use Rattle.jq_app.specs.Served.{IsReply, by_clap, help, helped, misused, usage, version, versioned}
-use Rattle.jq_app.specs.Stages.{stage, started_in}
 use Rattle.jq_app.proofs.Blaming.{blamed_by_print, blamed_by_report}
 use Rattle.jq_app.proofs.Outcomes.{served_configuration, served_reply, stopped_configuration, stopped_reply}
 use Rattle.jq_run.proofs.shared.Reporting.{print_answered, print_stopped, report_answered, report_stopped, reported}
@@ -20,76 +17,60 @@ pub returns-in-Err-Help-clause-served : goal.returns-in-Err-Help-clause-served
 returns-in-Err-Help-clause-served g c =
     let words = map string_bytes c.args.words.items in
     let why : IsReply words help = helped (rw c.in-Err-Help.field-0-is at c.in-Err-Help.ensures) in
-    let old = stage (streams_of g.R.Read.remaining g.O.Write.contents g.E.Write.contents c.args.input.now c.args.output.now c.args.errors.now) (started_in c.args.counts) in
-    let new = stage (streams_of g.R.Read.remaining g.O.Write.contents g.E.Write.contents c.args.input.now c.write_text.new.output c.args.errors.now) (started_in c.args.counts) in
-    served_reply c.write_text.result _ words help old new why refl (print_answered c.write_text.result HELP_TEXT.now 0 _ _ _ c.write_text.ensures.report)
+    rw (← c.streams.view_is, ← c.streams-inside.view_is) (served_reply c.write_text.result _ words help _ _ why refl (print_answered c.write_text.result HELP_TEXT.now 0 _ _ _ c.write_text.ensures.report))
 
 pub returns-in-Err-Help-clause-stopped : goal.returns-in-Err-Help-clause-stopped
 returns-in-Err-Help-clause-stopped g c =
     let words = map string_bytes c.args.words.items in
     let why : IsReply words help = helped (rw c.in-Err-Help.field-0-is at c.in-Err-Help.ensures) in
-    let old = stage (streams_of g.R.Read.remaining g.O.Write.contents g.E.Write.contents c.args.input.now c.args.output.now c.args.errors.now) (started_in c.args.counts) in
-    let new = stage (streams_of g.R.Read.remaining g.O.Write.contents g.E.Write.contents c.args.input.now c.write_text.new.output c.args.errors.now) (started_in c.args.counts) in
-    stopped_reply c.write_text.result _ words help old new why refl (print_stopped c.write_text.result HELP_TEXT.now 0 (g.R.Read.remaining (device_of c.args.input.now)) _ _ (g.E.Write.contents (device_of c.args.errors.now)) c.write_text.ensures.report)
+    rw (← c.streams.view_is, ← c.streams-inside.view_is) (stopped_reply c.write_text.result _ words help _ _ why refl (print_stopped c.write_text.result HELP_TEXT.now 0 _ _ _ _ c.write_text.ensures.report))
 
 pub returns-in-Err-Version-clause-served : goal.returns-in-Err-Version-clause-served
 returns-in-Err-Version-clause-served g c =
     let words = map string_bytes c.args.words.items in
     let why : IsReply words version = versioned (rw c.in-Err-Version.field-0-is at c.in-Err-Version.ensures) in
-    let old = stage (streams_of g.R.Read.remaining g.O.Write.contents g.E.Write.contents c.args.input.now c.args.output.now c.args.errors.now) (started_in c.args.counts) in
-    let new = stage (streams_of g.R.Read.remaining g.O.Write.contents g.E.Write.contents c.args.input.now c.write_text-in-Err-Version.new.output c.args.errors.now) (started_in c.args.counts) in
-    served_reply c.write_text-in-Err-Version.result _ words version old new why refl (print_answered c.write_text-in-Err-Version.result VERSION_TEXT.now 0 _ _ _ c.write_text-in-Err-Version.ensures.report)
+    rw (← c.streams.view_is, ← c.streams-inside.view_is) (served_reply c.write_text-in-Err-Version.result _ words version _ _ why refl (print_answered c.write_text-in-Err-Version.result VERSION_TEXT.now 0 _ _ _ c.write_text-in-Err-Version.ensures.report))
 
 pub returns-in-Err-Version-clause-stopped : goal.returns-in-Err-Version-clause-stopped
 returns-in-Err-Version-clause-stopped g c =
     let words = map string_bytes c.args.words.items in
     let why : IsReply words version = versioned (rw c.in-Err-Version.field-0-is at c.in-Err-Version.ensures) in
-    let old = stage (streams_of g.R.Read.remaining g.O.Write.contents g.E.Write.contents c.args.input.now c.args.output.now c.args.errors.now) (started_in c.args.counts) in
-    let new = stage (streams_of g.R.Read.remaining g.O.Write.contents g.E.Write.contents c.args.input.now c.write_text-in-Err-Version.new.output c.args.errors.now) (started_in c.args.counts) in
-    stopped_reply c.write_text-in-Err-Version.result _ words version old new why refl (print_stopped c.write_text-in-Err-Version.result VERSION_TEXT.now 0 (g.R.Read.remaining (device_of c.args.input.now)) _ _ (g.E.Write.contents (device_of c.args.errors.now)) c.write_text-in-Err-Version.ensures.report)
+    rw (← c.streams.view_is, ← c.streams-inside.view_is) (stopped_reply c.write_text-in-Err-Version.result _ words version _ _ why refl (print_stopped c.write_text-in-Err-Version.result VERSION_TEXT.now 0 _ _ _ _ c.write_text-in-Err-Version.ensures.report))
 
 pub returns-in-Err-Usage-clause-served : goal.returns-in-Err-Usage-clause-served
 returns-in-Err-Usage-clause-served g c =
     let words = map string_bytes c.args.words.items in
     let why : IsReply words usage = misused (rw c.in-Err-Usage.field-0-is at c.in-Err-Usage.ensures) in
-    let old = stage (streams_of g.R.Read.remaining g.O.Write.contents g.E.Write.contents c.args.input.now c.args.output.now c.args.errors.now) (started_in c.args.counts) in
-    let new = stage (streams_of g.R.Read.remaining g.O.Write.contents g.E.Write.contents c.args.input.now c.args.output.now c.refuse_words.new.errors) (started_in c.args.counts) in
-    served_reply c.refuse_words.result _ words usage old new why refl (report_answered c.refuse_words.result usage.errors 2 _ _ _ c.refuse_words.ensures.report)
+    rw (← c.streams.view_is, ← c.streams-inside.view_is) (served_reply c.refuse_words.result _ words usage _ _ why refl (report_answered c.refuse_words.result usage.errors 2 _ _ _ c.refuse_words.ensures.report))
 
 pub returns-in-Err-Usage-clause-stopped : goal.returns-in-Err-Usage-clause-stopped
 returns-in-Err-Usage-clause-stopped g c =
     let words = map string_bytes c.args.words.items in
     let why : IsReply words usage = misused (rw c.in-Err-Usage.field-0-is at c.in-Err-Usage.ensures) in
-    let old = stage (streams_of g.R.Read.remaining g.O.Write.contents g.E.Write.contents c.args.input.now c.args.output.now c.args.errors.now) (started_in c.args.counts) in
-    let new = stage (streams_of g.R.Read.remaining g.O.Write.contents g.E.Write.contents c.args.input.now c.args.output.now c.refuse_words.new.errors) (started_in c.args.counts) in
-    stopped_reply c.refuse_words.result _ words usage old new why refl (report_stopped c.refuse_words.result usage.errors 2 (g.R.Read.remaining (device_of c.args.input.now)) (g.O.Write.contents (device_of c.args.output.now)) _ _ c.refuse_words.ensures.report)
+    rw (← c.streams.view_is, ← c.streams-inside.view_is) (stopped_reply c.refuse_words.result _ words usage _ _ why refl (report_stopped c.refuse_words.result usage.errors 2 _ _ _ _ c.refuse_words.ensures.report))
 
 pub returns-in-Err-Line-clause-served : goal.returns-in-Err-Line-clause-served
 returns-in-Err-Line-clause-served g c =
     let words = map string_bytes c.args.words.items in
     let bytes = c.as_bytes.result.now in
     let why : IsReply words (reported bytes 2) = by_clap bytes (rw c.in-Err-Line.field-0-is at c.in-Err-Line.ensures) in
-    let old = stage (streams_of g.R.Read.remaining g.O.Write.contents g.E.Write.contents c.args.input.now c.args.output.now c.args.errors.now) (started_in c.args.counts) in
-    let new = stage (streams_of g.R.Read.remaining g.O.Write.contents g.E.Write.contents c.args.input.now c.args.output.now c.refuse.new.errors) (started_in c.args.counts) in
-    served_reply c.refuse.result _ words (reported bytes 2) old new why refl (report_answered c.refuse.result bytes 2 _ _ _ c.refuse.ensures.report)
+    rw (← c.streams.view_is, ← c.streams-inside.view_is) (served_reply c.refuse.result _ words (reported bytes 2) _ _ why refl (report_answered c.refuse.result bytes 2 _ _ _ c.refuse.ensures.report))
 
 pub returns-in-Err-Line-clause-stopped : goal.returns-in-Err-Line-clause-stopped
 returns-in-Err-Line-clause-stopped g c =
     let words = map string_bytes c.args.words.items in
     let bytes = c.as_bytes.result.now in
     let why : IsReply words (reported bytes 2) = by_clap bytes (rw c.in-Err-Line.field-0-is at c.in-Err-Line.ensures) in
-    let old = stage (streams_of g.R.Read.remaining g.O.Write.contents g.E.Write.contents c.args.input.now c.args.output.now c.args.errors.now) (started_in c.args.counts) in
-    let new = stage (streams_of g.R.Read.remaining g.O.Write.contents g.E.Write.contents c.args.input.now c.args.output.now c.refuse.new.errors) (started_in c.args.counts) in
-    stopped_reply c.refuse.result _ words (reported bytes 2) old new why refl (report_stopped c.refuse.result bytes 2 (g.R.Read.remaining (device_of c.args.input.now)) (g.O.Write.contents (device_of c.args.output.now)) _ _ c.refuse.ensures.report)
+    rw (← c.streams.view_is, ← c.streams-inside.view_is) (stopped_reply c.refuse.result _ words (reported bytes 2) _ _ why refl (report_stopped c.refuse.result bytes 2 _ _ _ _ c.refuse.ensures.report))
 
 pub returns-in-Err-Help-clause-blamed : goal.returns-in-Err-Help-clause-blamed
-returns-in-Err-Help-clause-blamed g c = blamed_by_print c.write_text.result _ _ c.write_text.ensures.fault c.write_text.ensures.failed
+returns-in-Err-Help-clause-blamed g c = rw (← c.streams.view_is, ← c.streams-inside.view_is) (blamed_by_print c.write_text.result _ _ c.write_text.ensures.fault c.write_text.ensures.failed)
 
 pub returns-in-Err-Version-clause-blamed : goal.returns-in-Err-Version-clause-blamed
-returns-in-Err-Version-clause-blamed g c = blamed_by_print c.write_text-in-Err-Version.result _ _ c.write_text-in-Err-Version.ensures.fault c.write_text-in-Err-Version.ensures.failed
+returns-in-Err-Version-clause-blamed g c = rw (← c.streams.view_is, ← c.streams-inside.view_is) (blamed_by_print c.write_text-in-Err-Version.result _ _ c.write_text-in-Err-Version.ensures.fault c.write_text-in-Err-Version.ensures.failed)
 
 pub returns-in-Err-Usage-clause-blamed : goal.returns-in-Err-Usage-clause-blamed
-returns-in-Err-Usage-clause-blamed g c = blamed_by_report c.refuse_words.result _ _ c.refuse_words.ensures.fault c.refuse_words.ensures.failed
+returns-in-Err-Usage-clause-blamed g c = rw (← c.streams.view_is, ← c.streams-inside.view_is) (blamed_by_report c.refuse_words.result _ _ c.refuse_words.ensures.fault c.refuse_words.ensures.failed)
 
 pub returns-in-Err-Line-clause-blamed : goal.returns-in-Err-Line-clause-blamed
-returns-in-Err-Line-clause-blamed g c = blamed_by_report c.refuse.result _ _ c.refuse.ensures.fault c.refuse.ensures.failed
+returns-in-Err-Line-clause-blamed g c = rw (← c.streams.view_is, ← c.streams-inside.view_is) (blamed_by_report c.refuse.result _ _ c.refuse.ensures.fault c.refuse.ensures.failed)

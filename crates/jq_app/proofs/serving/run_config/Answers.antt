@@ -4,11 +4,10 @@ use Rattle.jq_cli.specs.Configuration.{shown}
 use Rattle.jq_devices.specs.Files.{bytes_left}
 use Rattle.jq_devices.specs.Watched.{device_of}
 use Rattle.jq_starts.specs.Starts.{starts_in}
-use Rattle.jq_stream.specs.Streams.{streams_of}
 use Rattle.jq_syntax.specs.Chosen.{chosen}
 use Rattle.jq_run.specs.Filters.{FilterNeedsInput}
 use Rattle.jq_app.specs.Sessions.{IsAccepted}
-use Rattle.jq_app.specs.Stages.{stage, started_in}
+use Rattle.jq_app.specs.Stages.{stage, stage_of}
 use Rattle.jq_app.proofs.Blaming.{blamed_by_files, blamed_by_input, blamed_from, failed_from}
 use Rattle.jq_app.proofs.Names.{no_names, some_names}
 use Rattle.jq_app.proofs.Outcomes.{stopped_by_files, stopped_here, stopped_session, done_by_files, done_here, done_session}
@@ -40,17 +39,15 @@ returns-then-live-clause-unread g c = λ none.
 pub returns-then-no_file-clause-done : goal.returns-then-no_file-clause-done
 returns-then-no_file-clause-done g c =
     let none : (shown c.args.config).files ≡ [] = no_names c.as_slice.result.now c.args.config.files.items c.as_slice.ensures.value (sym c.if-no_file.true ∙ c.is_empty-no_file.ensures) in
-    done_here c.run_filter-result.result _ (shown c.args.config) c.as_str-text.result.now
-    (stage (streams_of g.R.Read.remaining g.O.Write.contents g.E.Write.contents c.args.input.now c.args.output.now c.args.errors.now) (started_in c.args.counts))
-    (stage (streams_of g.R.Read.remaining g.O.Write.contents g.E.Write.contents c.run_filter-result.new.input c.run_filter-result.new.output c.run_filter-result.new.errors) (starts_in c.run_filter-result.new.starts + starts_in c.args.counts.spare))
+    done_here c.run_filter-result.result _ (shown c.args.config) c.as_str-text.result.now (stage_of c.args.streams c.args.counts)
+    (stage c.run_filter-result.new.streams.bytes (starts_in c.run_filter-result.new.starts + starts_in c.args.counts.spare))
     c.if-live.false none c.as_str-text.ensures.value c.run_filter-result.ensures.done
 
 pub returns-then-no_file-clause-stopped : goal.returns-then-no_file-clause-stopped
 returns-then-no_file-clause-stopped g c =
     let none : (shown c.args.config).files ≡ [] = no_names c.as_slice.result.now c.args.config.files.items c.as_slice.ensures.value (sym c.if-no_file.true ∙ c.is_empty-no_file.ensures) in
-    stopped_here c.run_filter-result.result _ (shown c.args.config) c.as_str-text.result.now
-    (stage (streams_of g.R.Read.remaining g.O.Write.contents g.E.Write.contents c.args.input.now c.args.output.now c.args.errors.now) (started_in c.args.counts))
-    (stage (streams_of g.R.Read.remaining g.O.Write.contents g.E.Write.contents c.run_filter-result.new.input c.run_filter-result.new.output c.run_filter-result.new.errors) (starts_in c.run_filter-result.new.starts + starts_in c.args.counts.spare))
+    stopped_here c.run_filter-result.result _ (shown c.args.config) c.as_str-text.result.now (stage_of c.args.streams c.args.counts)
+    (stage c.run_filter-result.new.streams.bytes (starts_in c.run_filter-result.new.starts + starts_in c.args.counts.spare))
     c.if-live.false none c.as_str-text.ensures.value c.run_filter-result.ensures.stopped
 
 pub returns-then-no_file-clause-blamed : goal.returns-then-no_file-clause-blamed
@@ -68,20 +65,22 @@ pub returns-clause-done : goal.returns-clause-done
 returns-clause-done g c =
     let left = bytes_left g.F.Opener.content g.F.File.Read.remaining in
     let some : (shown c.args.config).files ≢ [] = some_names c.as_slice.result.now c.args.config.files.items c.as_slice.ensures.value (sym c.if-no_file.false ∙ c.is_empty-no_file.ensures) in
-    done_by_files c.run_filter-result-2.result _ (shown c.args.config) c.as_str-text.result.now (left (device_of c.new-files.result)) (left (device_of c.run_filter-result-2.new.input))
-    (stage (streams_of g.R.Read.remaining g.O.Write.contents g.E.Write.contents c.args.input.now c.args.output.now c.args.errors.now) (started_in c.args.counts))
-    (stage (streams_of g.R.Read.remaining g.O.Write.contents g.E.Write.contents c.args.input.now c.run_filter-result-2.new.output c.run_filter-result-2.new.errors) (starts_in c.run_filter-result-2.new.starts + starts_in c.args.counts.spare))
-    c.if-live.false some c.as_str-text.ensures.value (ap left c.new-files.ensures.device ∙ c.named.ensures.whole) refl c.run_filter-result-2.ensures.done
+    let done = rw (← c.over_files.view_is) at c.run_filter-result-2.ensures.done in
+    rw (← c.streams.view_is)
+    (done_by_files c.run_filter-result-2.result _ (shown c.args.config) c.as_str-text.result.now (left (device_of c.new-files.result)) (left (device_of c.over_files.inside.input)) _ _
+    c.if-live.false some c.as_str-text.ensures.value (ap left c.new-files.ensures.device ∙ c.named.ensures.whole) refl done)
 
 pub returns-clause-stopped : goal.returns-clause-stopped
 returns-clause-stopped g c =
     let left = bytes_left g.F.Opener.content g.F.File.Read.remaining in
     let some : (shown c.args.config).files ≢ [] = some_names c.as_slice.result.now c.args.config.files.items c.as_slice.ensures.value (sym c.if-no_file.false ∙ c.is_empty-no_file.ensures) in
-    stopped_by_files c.run_filter-result-2.result _ (shown c.args.config) c.as_str-text.result.now (left (device_of c.new-files.result)) (left (device_of c.run_filter-result-2.new.input))
-    (stage (streams_of g.R.Read.remaining g.O.Write.contents g.E.Write.contents c.args.input.now c.args.output.now c.args.errors.now) (started_in c.args.counts))
-    (stage (streams_of g.R.Read.remaining g.O.Write.contents g.E.Write.contents c.args.input.now c.run_filter-result-2.new.output c.run_filter-result-2.new.errors) (starts_in c.run_filter-result-2.new.starts + starts_in c.args.counts.spare))
-    c.if-live.false some c.as_str-text.ensures.value (ap left c.new-files.ensures.device ∙ c.named.ensures.whole) refl c.run_filter-result-2.ensures.stopped
+    let stopped = rw (← c.over_files.view_is) at c.run_filter-result-2.ensures.stopped in
+    rw (← c.streams.view_is)
+    (stopped_by_files c.run_filter-result-2.result _ (shown c.args.config) c.as_str-text.result.now (left (device_of c.new-files.result)) (left (device_of c.over_files.inside.input)) _ _
+    c.if-live.false some c.as_str-text.ensures.value (ap left c.new-files.ensures.device ∙ c.named.ensures.whole) refl stopped)
 
 pub returns-clause-blamed : goal.returns-clause-blamed
 returns-clause-blamed g c =
-    blamed_by_files c.run_filter-result-2.result _ _ (failed_from c.run_filter-result-2.result 0 _ _ c.new-files.ensures.failures c.run_filter-result-2.ensures.read_failed) c.run_filter-result-2.ensures.write_failed
+    let read = rw (← c.over_files.view_is) at c.run_filter-result-2.ensures.read_failed in
+    let write = rw (← c.over_files.view_is) at c.run_filter-result-2.ensures.write_failed in
+    rw (← c.streams.view_is) (blamed_by_files c.run_filter-result-2.result _ _ (failed_from c.run_filter-result-2.result 0 _ _ c.new-files.ensures.failures read) write)

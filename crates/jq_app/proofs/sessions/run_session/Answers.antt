@@ -2,10 +2,8 @@ use Rattle.std.proofs.Common.{refl}
 use Rattle.std.specs.Str.{chars}
 use Rattle.jq_devices.specs.Watched.{device_of}
 use Rattle.jq_filters.specs.Filters.{filter_job, filter_mode}
-use Rattle.jq_stream.specs.Streams.{streams_of}
 use Rattle.jq_syntax.specs.Chosen.{chosen}
 use Rattle.jv_data.proofs.shared.Results.{if_err_map, if_ok_map}
-use Rattle.jq_app.specs.Stages.{stage, started_in}
 use Rattle.jq_app.proofs.Blaming.{blamed_by_report}
 use Rattle.jq_run.proofs.shared.FilterRefusals.{filter_refusal}
 use Rattle.jq_run.proofs.shared.Reporting.{report_answered, report_stopped}
@@ -24,19 +22,17 @@ returns-in-Ok-clause-unread g c = λ none. absurd (none (filter_mode c.in-Ok.par
 pub returns-in-Err-clause-done : goal.returns-in-Err-clause-done
 returns-in-Err-clause-done g c =
     let f = c.in-Err.fault in
-    let old = stage (streams_of g.R.Read.remaining g.O.Write.contents g.E.Write.contents c.args.input.now c.args.output.now c.args.errors.now) (started_in c.args.counts) in
-    let new = stage (streams_of g.R.Read.remaining g.O.Write.contents g.E.Write.contents c.args.input.now c.args.output.now c.refuse_filter.new.errors) (started_in c.args.counts) in
-    session_refused c.refuse_filter.result (g.I.Read.remaining (device_of c.args.files.now)) c.args.follow (chosen c.args.options) (chars c.args.filter.now) f old new (refl, refl) c.in-Err.ensures.refused
-    c.refuse_filter.ensures.memory (report_answered c.refuse_filter.result (filter_refusal f).errors 3 (g.O.Write.contents (device_of c.args.output.now)) _ _ c.refuse_filter.ensures.report)
+    rw (← c.streams.view_is, ← c.streams-inside.view_is)
+    (session_refused c.refuse_filter.result (g.I.Read.remaining (device_of c.args.files.now)) c.args.follow (chosen c.args.options) (chars c.args.filter.now) f _ _ (refl, refl) c.in-Err.ensures.refused
+    c.refuse_filter.ensures.memory (report_answered c.refuse_filter.result (filter_refusal f).errors 3 _ _ _ c.refuse_filter.ensures.report))
 
 pub returns-in-Err-clause-stopped : goal.returns-in-Err-clause-stopped
 returns-in-Err-clause-stopped g c =
     let f = c.in-Err.fault in
-    let old = stage (streams_of g.R.Read.remaining g.O.Write.contents g.E.Write.contents c.args.input.now c.args.output.now c.args.errors.now) (started_in c.args.counts) in
-    let new = stage (streams_of g.R.Read.remaining g.O.Write.contents g.E.Write.contents c.args.input.now c.args.output.now c.refuse_filter.new.errors) (started_in c.args.counts) in
-    session_refusal_stopped c.refuse_filter.result (g.I.Read.remaining (device_of c.args.files.now)) c.args.follow (chosen c.args.options) (chars c.args.filter.now) f old new (refl, refl)
-    c.in-Err.ensures.refused c.refuse_filter.ensures.memory
-    (report_stopped c.refuse_filter.result (filter_refusal f).errors 3 (g.R.Read.remaining (device_of c.args.input.now)) (g.O.Write.contents (device_of c.args.output.now)) _ _ c.refuse_filter.ensures.report)
+    rw (← c.streams.view_is, ← c.streams-inside.view_is)
+    (session_refusal_stopped c.refuse_filter.result (g.I.Read.remaining (device_of c.args.files.now)) c.args.follow (chosen c.args.options) (chars c.args.filter.now) f _ _ (refl, refl)
+    c.in-Err.ensures.refused c.refuse_filter.ensures.memory (report_stopped c.refuse_filter.result (filter_refusal f).errors 3 _ _ _ _ c.refuse_filter.ensures.report))
 
 pub returns-in-Err-clause-blamed : goal.returns-in-Err-clause-blamed
-returns-in-Err-clause-blamed g c = blamed_by_report c.refuse_filter.result _ _ c.refuse_filter.ensures.fault c.refuse_filter.ensures.failed
+returns-in-Err-clause-blamed g c =
+    rw (← c.streams.view_is, ← c.streams-inside.view_is) (blamed_by_report c.refuse_filter.result _ _ c.refuse_filter.ensures.fault c.refuse_filter.ensures.failed)

@@ -1,8 +1,7 @@
 use Rattle.jq_devices.specs.Watched.{device_of, failures_of}
-use Rattle.jq_stream.specs.Streams.{streams_of}
 use Rattle.jv_data.proofs.shared.Results.{if_err_map, if_ok_map}
 use Rattle.jq_app.specs.Blaming.{failures}
-use Rattle.jq_app.specs.Stages.{stage, started_in}
+use Rattle.jq_app.specs.Stages.{stage_of}
 use Rattle.jq_app.proofs.Blaming.{read_by_files, same_files}
 use Rattle.jq_app.proofs.Live.{stopped_before}
 use Rattle.jq_app.proofs.sessions.serve_filter.Goals as goal
@@ -21,10 +20,10 @@ returns-in-Ok-clause-blamed g c = same_files c.serve_texts.result.0 _ _ _ _ _ _ 
 pub returns-in-Err-clause-stopped : goal.returns-in-Err-clause-stopped
 returns-in-Err-clause-stopped g c = λ o text h chose.
     stopped_before c.in-Err.fault (g.I.Read.remaining (device_of c.args.files.now)) c.args.follow o text
-    (stage (streams_of g.R.Read.remaining g.O.Write.contents g.E.Write.contents c.args.input.now c.args.output.now c.args.errors.now) (started_in c.args.counts)) c.in-Err.ensures.fault
+    (stage_of c.args.streams.now c.args.counts) c.in-Err.ensures.fault
 
 pub returns-in-Err-clause-blamed : goal.returns-in-Err-clause-blamed
 returns-in-Err-clause-blamed g c =
-    let old = failures (failures_of c.args.files.now) c.args.input.now c.args.output.now c.args.errors.now in
-    let new = failures (failures_of c.read_texts.new.input) c.args.input.now c.args.output.now c.args.errors.now in
+    let old = failures (failures_of c.args.files.now) c.args.streams.now in
+    let new = failures (failures_of c.read_texts.new.input) c.args.streams.now in
     read_by_files c.in-Err.fault old new c.in-Err.ensures.fault c.in-Err.ensures.failed

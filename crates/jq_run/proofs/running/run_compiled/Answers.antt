@@ -1,6 +1,5 @@
 use Rattle.jq_state.specs.Listed.{items_in}
 use Rattle.jq_filters.specs.Runner.{job_of}
-use Rattle.jq_stream.specs.Streams.{streams_of}
 use Rattle.jq_run.proofs.OfTexts.{has_run, has_stopped, needs_none, runs}
 use Rattle.jq_run.proofs.running.run_compiled.Goals as goal
 
@@ -9,8 +8,8 @@ returns-clause-ran g c =
     let p = c.args.filter.now in
     let s = c.settings-settings.result in
     let r = c.runner-runner.result in
-    let old = streams_of g.R.Read.remaining g.O.Write.contents g.E.Write.contents c.args.input.now c.args.output.now c.args.errors.now in
-    let new = streams_of g.R.Read.remaining g.O.Write.contents g.E.Write.contents c.run_stream.new.input c.run_stream.new.output c.run_stream.new.errors in
+    let old = c.args.streams.now.bytes in
+    let new = c.run_stream.new.streams.bytes in
     let is = runs p s r.depth r.tree.now r.bindings.now c.settings-settings.ensures c.runner-runner.ensures.depth c.runner-runner.ensures.tree c.runner-runner.ensures.bindings in
     has_run c.run_stream.result p s.mode (job_of s r) old new is c.run_stream.ensures.ran c.run_stream.ensures.one_pass
 
@@ -19,8 +18,8 @@ returns-clause-stopped g c =
     let p = c.args.filter.now in
     let s = c.settings-settings.result in
     let r = c.runner-runner.result in
-    let old = streams_of g.R.Read.remaining g.O.Write.contents g.E.Write.contents c.args.input.now c.args.output.now c.args.errors.now in
-    let new = streams_of g.R.Read.remaining g.O.Write.contents g.E.Write.contents c.run_stream.new.input c.run_stream.new.output c.run_stream.new.errors in
+    let old = c.args.streams.now.bytes in
+    let new = c.run_stream.new.streams.bytes in
     let is = runs p s r.depth r.tree.now r.bindings.now c.settings-settings.ensures c.runner-runner.ensures.depth c.runner-runner.ensures.tree c.runner-runner.ensures.bindings in
     has_stopped c.run_stream.result p s.mode (job_of s r) old new is c.run_stream.ensures.stopped c.run_stream.ensures.one_pass
 

@@ -1,12 +1,9 @@
 use Rattle.std.proofs.Common.{◌≡◌, ℕ, List, ◌++◌, None, length}
 use Rattle.jv_data.specs.Value.{Value}
 use Rattle.jv_text.specs.Cutting.{HasGiven, is_finished, fed_count}
-use Rattle.jq_devices.specs.Watched.{device_of}
 use Rattle.jq_filters.specs.Outcomes.{first_halt}
 use Rattle.jq_filters.specs.Runner.{job_of}
-use Rattle.jq_stream.specs.Streams.{outputs}
 use Rattle.jq_stream.specs.private.Cutting.{IsCutting}
-use Rattle.jq_stream.specs.Failures.{output_failures}
 use Rattle.jq_stream.specs.private.Answering.{IsAnswered, runs_on}
 use Rattle.jq_stream.proofs.Giving.{values_left}
 use Rattle.jq_stream.proofs.answers.OutputBuffers.answer_all.Given as goal
@@ -17,10 +14,10 @@ invariant-loop-value g l = record {
   answered : (given : List Value) (fed : List ℕ) → HasGiven l.fn.cutter given fed → (values : List Value) × HasGiven l.cutter (given ++ values) fed
       × (first_halt (runs_on (job_of l.settings l.runner) values) ≡ None)
       × IsAnswered l.settings.style (runs_on (job_of l.settings l.runner) values) l.fn.self l.self
-      (outputs (g.O.Write.contents (device_of l.fn.output)) (g.E.Write.contents (device_of l.fn.errors))) (outputs (g.O.Write.contents (device_of l.output)) (g.E.Write.contents (device_of l.errors)));
+      l.fn.outputs.bytes l.outputs.bytes;
   finished : is_finished l.cutter ≡ is_finished l.fn.cutter;
   count : fed_count l.cutter ≡ fed_count l.fn.cutter;
-  unfailed : output_failures l.output l.errors ≡ output_failures l.fn.output l.fn.errors;
+  unfailed : l.outputs.failures ≡ l.fn.outputs.failures;
 }
 
 abbrev pub decreases-loop-value : goal.decreases-loop-value
