@@ -15,7 +15,7 @@ use jq_state::frames::Scope;
 use jv_data::{NoMemory, Val};
 use std::alloc::Global;
 
-/// The output of a filter on a value, if the filter is simple and has one. So may be the filter of a parameter.
+/// The output of a simple filter on a value, if it has one; of a call without arguments that of the body, if this is simple.
 pub(crate) fn simple_output<'p>(
     alloc: Global,
     nodes: &Nodes<'p>,

@@ -3,7 +3,8 @@ ghost use Rattle.std.specs.Prelude.{◌≡◌, ◌+◌, ◌++◌, IfOk, IfSome, 
 ghost use Rattle.jq_syntax.specs.Chosen.{variables_of};
 ghost use Rattle.jq_state.specs.Listed.{items_in};
 ghost use Rattle.jq_state.specs.Nodes.{program_binding};
-ghost use Rattle.jq_filters.specs.Programs.{IsPreludeBefore, bindings_of, function_binding, value_binding};
+ghost use Rattle.jq_filters.specs.Programs.{bindings_of, function_binding, value_binding};
+ghost use Rattle.jq_filters.specs.private.Preludes.{IsPreludeBefore};
 
 use crate::laws::{functions_are_the_preludes, the_prelude_has_modify};
 use jq_ast::{Function, Tree};

@@ -4,7 +4,7 @@
 //! - Transitions that several forms share: outputs that are given to the frames (`delivery`), and forms whose parts run one after
 //!   the other (`arguments`, `pieces`, `entries`, `waiting`).
 //! - Names and calls: what a name is bound to, and the first transitions of variables, definitions, labels, breaks and calls
-//!   (`calls`, `callees`, `labels`, `values`).
+//!   (`calls`, `callees`, `labels`, `values`), and whether `f |= g` calls the prelude's `_modify` (`updates`).
 //! - The end of a turn of an update `f |= g`, on values that are owned alone, which are changed in place (`settings`, `turns`).
 //!
 //! Entry: `run`, `delivery::deliver`, `enter_call`. Tests: the commands of `tests/`.

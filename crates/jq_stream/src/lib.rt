@@ -1,10 +1,11 @@
 //! The runs of a filter over a stream of JSON texts: they write what `jq_filters` defines, and end with its status.
 //!
-//! A command has an input and two outputs (`streams`). A stream is read in pieces (`feeding`). The filter runs on each value of it, on null, or on the array of all its values
-//! (`running`). What its runs print and report is kept in buffers and written from there (`answers`). If all values are
-//! present, the same runs write into vectors (`values`), and the run on one input into a piece (`pieces`).
+//! A command has an input and two outputs (`streams`). A stream is read in pieces (`feeding`). The filter runs on each value
+//! of it, on null, or on the array of all its values (`running`). What its runs print and report is kept in buffers and
+//! written from there (`answers`). If all values are present, the same runs write into vectors (`values`), and the run on one
+//! input into a piece (`pieces`).
 //!
-//! Entry: `run_stream`, `run_values`, `run_piece`. Tests: `tests/streams.toml`, `tests/options.toml`, `tests/devices.toml`.
+//! Entry: `Streams`, `run_stream`, `run_values`, `run_piece`. Tests: `tests/streams.toml`, `tests/options.toml`, `tests/devices.toml`.
 #![tactic(auto)]
 
 mod answers;

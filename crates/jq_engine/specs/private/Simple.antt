@@ -10,7 +10,7 @@ use Rattle.jq_state.specs.declared.environments.Nodes.{Nodes}
 use Rattle.jq_state.specs.declared.frames.Scope.{Scope}
 use Rattle.jq_engine.specs.private.Leading.{Advances}
 
--- On this value a filter gives that one alone, whatever the frames and the fork points are.
+-- On this input a filter has this one output, whatever the frames and the fork points are.
 abbrev pub GivesOne : Nodes → Tree → Scope → (input output : Value) → Type 0
 GivesOne ns t p v w =
     (inputs : Run Value) (k : List Frame) (fs : List ForkPoint) → Advances (state (evaluate t (scope_in (envs_of inputs ns) p) (plain v)) k fs) (state (give (plain w)) k fs)
