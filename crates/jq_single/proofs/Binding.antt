@@ -6,21 +6,23 @@ use mathlib.Core.Bool.{beq}
 use Rattle.jv_data.specs.Value.{Value, boolean, array, items_of, values_of, null}
 use Rattle.jv_data.specs.declared.values.Val.{Val}
 use Rattle.jq_natives.specs.Answers.{is_true}
-use Rattle.jq_meaning.specs.Continuations.{truth, on_conjunct, on_disjunct, on_error, on_source, in_bindings, on_test, on_state}
+use Rattle.jq_meaning.specs.Continuations.{truth, on_conjunct, on_disjunct, on_source, in_bindings, on_state}
 use Rattle.jq_tree.specs.Tree.{Name, Tree}
 use Rattle.jq_meaning.specs.Env.{Env, bound, value_of}
-use Rattle.jq_meaning.specs.Meaning.{Means, bindings_with, meaning}
-use Rattle.jq_meaning.specs.Runs.{Item, plain, alternative, Run, one, fail, bind, catch, value_in, Ending, Done, Raised, Broken, Stopped, none, before, then_run, bind_items, gathered, located, path_error, go_on}
+use Rattle.jq_meaning.specs.Meaning.{Means, below, bindings_with, meaning}
+use Rattle.jq_meaning.specs.Runs.{Item, plain, alternative, Run, one, fail, bind, value_in, Ending, Done, Raised, Broken, Stopped, none, before, then_run, bind_items, gathered, located, path_error, go_on}
 use Rattle.jq_meaning.proofs.shared.machine.RunLaws.{bind-one, bind-bind, bind-one_right, bind-then_run, then_run-assoc, then_run-none}
 use Rattle.jq_single.specs.Single.{Ends, Comes, Keeps, Leaves}
-use Rattle.jq_single.specs.private.Gathering.{GoesOn, Gathers, GathersAll, given_of, made, rest_run, folded, last_or, state_in, turn}
-use Rattle.jq_single.specs.private.Parts.{RunsTo, decided, run}
+use Rattle.jq_single.specs.private.Gathering.{GoesOn, Gathers, GathersAll, given_of, made, rest_run, fold_run, folded, last_or, state_in, turn}
+use Rattle.jq_single.specs.private.Parts.{decided, run}
 use Rattle.jq_single.specs.declared.stops.Stop.{Stop}
 use Rattle.std.proofs.lemmas.List.{append-nil, map-append, reverse-append}
 use Rattle.jv_data.proofs.shared.Items.{values_of-items_of}
 use Rattle.jv_data.specs.View.{view}
 use Rattle.jq_meaning.specs.Builtins.{values_in_array}
 use Rattle.jq_state.specs.Items.{item_of}
+use Rattle.jq_state.proofs.shared.Items.{absent, value_of_item}
+use Rattle.jv_data.proofs.shared.Levels.{view-Bool, view-List}
 use Rattle.jq_single.specs.declared.contexts.Context.{Context}
 use Rattle.jq_single.specs.declared.rests.Rest.{Rest}
 use Rattle.jq_meaning.specs.Folds.{next_state, reduced}
@@ -61,13 +63,15 @@ pub stops : {V B : Type 0} (to : V → Run B) (a : Result V Stop) (s : Stop) (r 
 stops to (Ok v) s r h k = absurd h
 stops to (Err e) s r h k = subst (λ z. Ends z r) (sym h) k
 
-pub fails : {V B : Type 0} (to : V → Run B) (a : Result V Stop) (s : Stop) (p : Context) (t : Tree) (v : Value) (g : Item → Run B) (inputs : Run Value) (level : ℕ) → IsErrAnd a (λ e. e ≡ s) → RunsTo p t v (Err s)
-    → Comes to a (bind (run p inputs level t (plain v)) g)
-fails to a s p t v g inputs level h k = stops to a s (bind (run p inputs level t (plain v)) g) h (ends-bind s (run p inputs level t (plain v)) g (k inputs level))
+pub part_stops : {V A B : Type 0} (to : V → Run B) (a : Result V Stop) (s : Stop) (r : Run A) (g : A → Run B) → IsErrAnd a (λ e. e ≡ s) → Ends s r → Comes to a (bind r g)
+part_stops to a s r g h k = stops to a s (bind r g) h (ends-bind s r g k)
 
-pub keeps-stops : {A : Type 0} (a : Result A Stop) (s : Stop) (v : Value) → IsErrAnd a (λ e. e ≡ s) → Keeps a v v
-keeps-stops (Ok d) s v h = absurd h
-keeps-stops (Err e) s v h = leaves_same e v
+pub keeps_stops : {A : Type 0} (a : Result A Stop) (s : Stop) (v : Value) → IsErrAnd a (λ e. e ≡ s) → Keeps a v v
+keeps_stops (Ok d) s v h = absurd h
+keeps_stops (Err e) s v h = leaves_same e v
+
+-- what each function may use
+pub ruleset known_runs = (part_stops, keeps_stops, bind-one, bind-bind, value_of_item, absent, view-Bool, view-List)
 
 -- ---- conditions
 
@@ -100,10 +104,6 @@ pub alternative_known : (b : Bool) (r : Run Item) (g : Item → Run Item) (x : I
 alternative_known true r g x w e t = ap (λ q. alternative q g x) e ∙ rw (t, alternative) refl
 alternative_known false r g x w e t = ap (λ q. alternative q g x) e ∙ rw (t, alternative) refl
 
-pub caught : (r : Run Item) (v w : Value) (handler : Item → Run Item) → r ≡ fail w → catch r (on_error handler (plain v)) ≡ handler (plain w)
-unfolding on_error
-caught r v w handler e = ap (λ q. catch q (on_error handler (plain v))) e
-
 -- ---- variables
 
 pub with_variable : (deeper : Means) (r : Run Item) (n : Name) (w : Value) (e : Env) (k : ℕ) (body : Env → ℕ → Item → Run Item) (x : Item) → r ≡ one (plain w)
@@ -121,6 +121,10 @@ gathers-none make d xs r e = λ q. ap (λ p. make xs (then_run p q)) e
 pub gathers-then : {A B : Type 0} (make : List Val → Run Item → Run Item) (d : A) (a : Result B Stop) (xs ys zs : List Val) (r q : Run Item) → Gathers make (Ok d) xs ys r → Gathers make a ys zs q → Gathers make a xs zs (then_run r q)
 gathers-then make d (Ok c) xs ys zs r q f g = λ p. ap (make xs) (then_run-assoc r q p) ∙ f (then_run q p) ∙ g p
 gathers-then make d (Err s) xs ys zs r q f g = λ p. subst (Ends s) (sym (ap (make xs) (then_run-assoc r q p) ∙ f (then_run q p))) (g p)
+
+-- a filter that goes on with another one, and then with the rest
+pub gathers_next : {A : Type 0} (make : List Val → Run Item → Run Item) (a : Result A Stop) (xs ys : List Val) (r s : Run Item) (next later : Item → Run Item) → s ≡ bind r next → Gathers make a xs ys (bind r (λ x. bind (next x) later)) → Gathers make a xs ys (bind s later)
+gathers_next make a xs ys r s next later e = subst (Gathers make a xs ys) (sym (ap (λ q. bind q later) e ∙ bind-bind r next later))
 
 -- a run that stopped is still stopped after more runs
 pub stops-then : (make : List Val → Run Item → Run Item) (s : Stop) (xs : List Val) (r q : Run Item) → ((p : Run Item) → Ends s (make xs (then_run r p))) → (p : Run Item) → Ends s (make xs (then_run (then_run r q) p))
@@ -170,15 +174,6 @@ gathers_all p t v most (Ok d) xs ys x h e g = λ inputs level.
     gathered_list inputs level most d xs ys (run p inputs level t (plain v)) e (subst (λ (z : Item). Gathers (made inputs level (rest.End most)) (Ok d) xs ys (bind (run p inputs level t z) one)) h (g inputs level))
 gathers_all p t v most (Err s) xs ys x h e g = λ inputs level.
     ends_gathered inputs level most s xs (run p inputs level t (plain v)) e (subst (λ (z : Item). (q : Run Item) → Ends s (made inputs level (rest.End most) xs (then_run (bind (run p inputs level t z) one) q))) h (g inputs level))
-
--- a test picks a branch
-pub picks_holds : (l : Run Item) (w : Value) (holds fails : Item → Run Item) (x : Item) → l ≡ one (plain w) → is_true w ≡ true → bind l (on_test holds fails x) ≡ holds x
-unfolding on_test
-picks_holds l w holds fails x e t = bind-known l (plain w) (on_test holds fails x) e ∙ rw (t, on_test) refl
-
-pub picks_fails : (l : Run Item) (w : Value) (holds fails : Item → Run Item) (x : Item) → l ≡ one (plain w) → is_true w ≡ false → bind l (on_test holds fails x) ≡ fails x
-unfolding on_test
-picks_fails l w holds fails x e t = bind-known l (plain w) (on_test holds fails x) e ∙ rw (t, on_test) refl
 
 -- ---- items, the last one first
 
@@ -256,16 +251,14 @@ reduced-bound deeper k n e update (x ∷ xs) f state =
     (reduced (on_state update k) (bind_items xs f (on_source (bindings_with deeper (tree.whole n) k) e)).items (bind_items xs f (on_source (bindings_with deeper (tree.whole n) k) e)).ending)
     (reduced (λ y. update (bound (value_of n (value_in y)) e) k) xs f) (λ y. reduced-bound deeper k n e update xs f y)
 
--- a fold whose source was run to its end
-pub fold_ends : (deeper : Means) (k : ℕ) (n : Name) (e : Env) (update : Env → ℕ → Item → Run Item) (source : Run Item) (xs : List Val) (state : Value) (r : Run Item) → state_in xs ≡ plain state
-    → reduced (λ x. update (bound (value_of n (value_in x)) e) k) (then_run (bind source one) none).items (then_run (bind source one) none).ending (state_in xs) ≡ r
-    → reduced (on_state update k) (bind source (on_source (bindings_with deeper (tree.whole n) k) e)).items (bind source (on_source (bindings_with deeper (tree.whole n) k) e)).ending (plain state) ≡ r
-fold_ends deeper k n e update source xs state r h g =
-    let step : Item → Item → Run Item = λ x. update (bound (value_of n (value_in x)) e) k in
-    reduced-bound deeper k n e update source.items source.ending (plain state)
-    ∙ ap (reduced step source.items source.ending) (sym h)
-    ∙ ap (λ (q : Run Item). reduced step q.items q.ending (state_in xs)) (sym (then_run-none (bind source one) ∙ bind-one_right source))
-    ∙ g
+-- a fold over all outputs of its source, from a state that is the last value of a list
+pub fold_all : (p : Context) (inputs : Run Value) (level : ℕ) (t : Tree) (n : Name) (u : Tree) (xs : List Val) (state v : Value) (x : Item) → state_in xs ≡ plain state → x ≡ plain v
+    → fold_run p inputs level t n u state v ≡ folded p inputs level n u xs (then_run (bind (run p inputs level t x) one) none)
+fold_all p inputs level t n u xs state v x h is =
+    let source = run p inputs level t (plain v) in
+    reduced-bound (below p.depth) level n (scope_env inputs p.scope.now) (meaning p.depth u) source.items source.ending (plain state)
+    ∙ ap (reduced (turn p inputs level n u) source.items source.ending) (sym h)
+    ∙ ap (folded p inputs level n u xs) (sym (whole source)) ∙ ap (λ y. folded p inputs level n u xs (then_run (bind (run p inputs level t y) one) none)) (sym is)
 
 -- ---- a fold of one step
 

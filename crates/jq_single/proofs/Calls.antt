@@ -121,9 +121,9 @@ pub prelude_outside : (inputs : Run Value) (n : Name) (count : ℕ) (s : Scope)
 prelude_outside inputs n count (scope.Run o) = or-self (find_in_prelude n count (scope_env inputs (scope.Run o)))
 prelude_outside inputs n count (scope.Value' p outer name v) = prelude_outside inputs n count outer
 prelude_outside inputs n count (scope.Function' p outer f) = or-more (find_in_prelude n count (scope_env inputs (scope.Run (outside_in outer)))) (find_in_prelude n count (scope_env inputs outer)) _ (prelude_outside inputs n count outer)
-prelude_outside inputs n count (scope.Call' p own f ts q caller) =
+prelude_outside inputs n count (scope.Call' p own ps ts q caller) =
     subst (λ (x : Callee). callee_or (find_in_prelude n count (scope_env inputs (scope.Run (outside_in own)))) x ≡ x)
-    (sym (past (find_in_prelude n count) (λ p t c e. refl) (map text_of f.now.parameters.items) (trees_of (map named ts.now.items)) (scope_env inputs caller) (scope_env inputs own))) (prelude_outside inputs n count own)
+    (sym (past (find_in_prelude n count) (λ p t c e. refl) (map text_of ps.now) (trees_of (map named ts.now)) (scope_env inputs caller) (scope_env inputs own))) (prelude_outside inputs n count own)
 
 pub prelude_runs : (p : Context) (inputs : Run Value) (level : ℕ) (n : Name) (ts : List ast.Tree) (f : Function ast.Tree) (own : Scope) (x : Item)
     → callees.found f (scope_env inputs own) ≡ find_in_prelude n (length ts) (scope_env inputs p.scope.now)

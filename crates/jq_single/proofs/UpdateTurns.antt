@@ -82,15 +82,16 @@ modify_outside stays inputs (scope.Run o) h = h
 modify_outside stays inputs (scope.Value' p outer name v) h = stays (value_of (text_of name.now) (view v.now)) (scope_env inputs outer) (modify_outside stays inputs outer h)
 modify_outside stays inputs (scope.Function' p outer f) h =
     stays (function (text_of f.now.name) (map text_of f.now.parameters.items) (named f.now.body)) (scope_env inputs outer) (modify_outside stays inputs outer h)
-modify_outside stays inputs (scope.Call' p own f ts q caller) h =
-    modify_in_call stays (map text_of f.now.parameters.items) (trees_of (map named ts.now.items)) (scope_env inputs caller) (scope_env inputs own) (modify_outside stays inputs own h)
+modify_outside stays inputs (scope.Call' p own ps ts q caller) h =
+    modify_in_call stays (map text_of ps.now) (trees_of (map named ts.now)) (scope_env inputs caller) (scope_env inputs own) (modify_outside stays inputs own h)
 
 -- ---- the paths
 
-pub known_paths : (k : ℕ) (g : Value → Run Item) (r : Run Item) (vs : List Value) (v : Value) → gathered r ≡ one (plain (array (items_of vs)))
-    → updated k r g (plain v) ≡ turns k g vs Done v (array (items_of []))
-known_paths k g r vs v h =
-    let is = gathered_same r.items r.ending vs h in
+pub known_paths : (k : ℕ) (g : Value → Run Item) (r : Run Item) (xs ys : List Val) (v : Value) → gathered r ≡ one (plain (array (items_of (map view xs)))) → ys ≡ xs
+    → updated k r g (plain v) ≡ turns k g (map view ys) Done v (array (items_of []))
+known_paths k g r xs ys v h same =
+    let vs = map view ys in
+    let is = gathered_same r.items r.ending vs (h ∙ ap (λ (zs : List Val). one (plain (array (items_of (map view zs))))) (sym same)) in
     ap (λ ps. turns k g ps r.ending v (array (items_of []))) is.0 ∙ ap (λ e. turns k g vs e v (array (items_of []))) is.1
 
 -- a path that is an array of keys

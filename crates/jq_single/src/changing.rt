@@ -6,7 +6,7 @@ ghost use Rattle.jq_ast.specs.Named.{named, named_as_pattern};
 ghost use Rattle.jq_state.specs.Environments.{count_of};
 ghost use Rattle.jq_operations.specs.Entering.{defined};
 ghost use Rattle.jq_single.specs.Single.{Changes, Keeps, Changed};
-ghost use Rattle.jq_single.specs.private.Parts.{ChangesTo, Calls, ChangesBelow, ChangesByBuiltin, ChangesByNative};
+ghost use Rattle.jq_single.specs.private.Parts.{ChangesTo, ChangesByBuiltin, ChangesByNative};
 ghost use Rattle.jv_data.specs.Value.{Value};
 ghost use Rattle.jq_meaning.specs.Continuations.{on_left};
 ghost use Rattle.jq_meaning.specs.Runs.{plain, Run};
@@ -17,7 +17,7 @@ ghost use Rattle.jq_single.specs.private.Scopes.{body_env, scope_env};
 ghost use Rattle.jq_tree.specs.Tree as form;
 
 use crate::contexts::{Context, FUEL};
-use crate::finding::Found;
+use crate::finding::Called;
 use crate::scopes::{Outside, Scope};
 use crate::stops::Stop;
 use jq_ast::{Function, Operator, Pattern, Tree};
@@ -94,12 +94,7 @@ impl<'s> Context<'s> {
                 self.change_binding(source, pattern, body, value)
             }
             Tree::Define(function, rest) => self.change_define(function, rest, value),
-            Tree::Call(name, arguments) => {
-                self.change_call(self.called(name, arguments), arguments, value)
-            }
-            Tree::PreludeCall(name, arguments) => {
-                self.change_call(self.called_in_prelude(name, arguments), arguments, value)
-            }
+            Tree::Call(_, _) | Tree::PreludeCall(_, _) => self.change_call(tree, value),
             Tree::Update(modify, parts) => self.change_update(modify, &**parts, value),
             Tree::Reduce(source, pattern, start, update) => {
                 self.change_reduce(source, pattern, start, update, value)
@@ -109,23 +104,11 @@ impl<'s> Context<'s> {
             Tree::Pipe(first, _) if !self.kept && !goes_over_all(first) && !is_cheap(value) => {
                 Err(Stop::Unknown)
             }
-            _ => self.change_kept(tree, value),
-        }
-    }
-
-    // The value is kept until the output is known.
-    #[cycle(single)]
-    #[inline(never)]
-    fn change_kept(&self, tree: &'s Tree, value: &mut Val) -> Result<(), Stop>
-        ensures runs { ChangesTo self.now (named tree.now) (view value.old) (view value.new) result }
-        ensures keeps { Keeps result (view value.old) (view value.new) }
-    {
-        match self.get_made(tree, value) {
-            Ok(output) => {
-                *value = output;
+            // The value is kept until the output is known.
+            _ => {
+                *value = self.get_made(tree, value)?;
                 Ok(())
             }
-            Err(stop) => Err(stop),
         }
     }
 
@@ -221,44 +204,29 @@ impl<'s> Context<'s> {
         }
     }
 
-    // A call, by what it finds.
+    // A call, by what it runs. A body is run with a call depth that is smaller by one.
     #[cycle(single)]
     #[inline(never)]
-    fn change_call(
-        &self,
-        found: Found<'s>,
-        arguments: &'s Vec<Tree>,
-        value: &mut Val,
-    ) -> Result<(), Stop>
-        ensures runs { (t : form.Tree) → Calls self.now t arguments.now.items found.entry → ChangesTo self.now t (view value.old) (view value.new) result }
+    fn change_call(&self, tree: &'s Tree, value: &mut Val) -> Result<(), Stop>
+        ensures runs { ChangesTo self.now (named tree.now) (view value.old) (view value.new) result }
         ensures keeps { Keeps result (view value.old) (view value.new) }
     {
-        match found {
-            Found::Function(function, own) => {
-                let scope = scope_of_call(&own, &*function, &*arguments, &*self.scope);
-                (&*self).change_body(&function.body, &scope, value)
+        match self.called(tree) {
+            Called::Body(body, parameters, own, arguments) => {
+                if self.depth == 0 {
+                    return Err(Stop::Unknown);
+                }
+                let scope = scope_of_call(&own, &*parameters, &*arguments, &*self.scope);
+                let inside = Context {
+                    scope: &scope,
+                    depth: self.depth - 1,
+                    ..*self
+                };
+                inside.change(&*body, value)
             }
-            Found::Closure(body, own) => self.change_body(body, &own, value),
-            Found::Builtin(builtin) => self.change_builtin(builtin, arguments.as_slice(), value),
-            Found::Nothing => Err(Stop::Unknown),
+            Called::Builtin(builtin, arguments) => self.change_builtin(builtin, arguments, value),
+            Called::Unknown => Err(Stop::Unknown),
         }
-    }
-
-    // Runs a body in its own scope, with a call depth that is smaller by one.
-    #[cycle(single)]
-    fn change_body(&self, body: &'s Tree, own: &Scope<'s>, value: &mut Val) -> Result<(), Stop>
-        ensures runs { ChangesBelow self.now own.now (named body.now) (view value.old) (view value.new) result }
-        ensures keeps { Keeps result (view value.old) (view value.new) }
-    {
-        if self.depth == 0 {
-            return Err(Stop::Unknown);
-        }
-        let inside = Context {
-            scope: &*own,
-            depth: self.depth - 1,
-            ..*self
-        };
-        inside.change(&*body, value)
     }
 
     /// A name of the language whose answer replaces the value. `setpath` and `delpaths` would copy a value that is kept, so they
@@ -331,20 +299,19 @@ fn operate_in_place(
     }
 }
 
-/// The scope of a function's body, in which the parameters are bound to the arguments of a call. Without parameters it is the
-/// function's own.
+/// The scope of a body, in which the parameters are bound to the arguments of a call. Without parameters it is the body's own.
 pub(crate) fn scope_of_call<'s>(
     own: &'s Scope<'s>,
-    function: &'s Function<Tree>,
-    arguments: &'s Vec<Tree>,
+    parameters: &'s [String],
+    arguments: &'s [Tree],
     caller: &'s Scope<'s>,
 ) -> Scope<'s>
-    ensures { (inputs : Run Value) → scope_env inputs result ≡ body_env function.now arguments.now.items (scope_env inputs caller.now) (scope_env inputs own.now) }
+    ensures { (inputs : Run Value) → scope_env inputs result ≡ body_env parameters.now arguments.now (scope_env inputs caller.now) (scope_env inputs own.now) }
 {
-    if function.parameters.is_empty() {
+    if parameters.is_empty() {
         *own
     } else {
-        Scope::Call(own, function, arguments, caller)
+        Scope::Call(own, parameters, arguments, caller)
     }
 }
 

@@ -30,38 +30,69 @@ use jq_state::environments::Nodes;
 use jq_state::names::{is_function, is_text};
 use jv_data::{NoMemory, SharedText, Val, kind_name};
 
-/// What a call finds: a function, with the scope that begins with its own binding, a
-/// filter that was passed, with its own scope, or a name of the language.
+/// What a name finds: a function, with the scope that begins with its own binding, or a filter that was passed, with its own scope.
 #[derive(Clone, Copy)]
 pub(crate) enum Found<'s> {
     Function(&'s Function<Tree>, Scope<'s>),
     Closure(&'s Tree, Scope<'s>),
-    Builtin(Builtin),
     Nothing,
 }
 
+/// What a call runs: a body, with its parameters, the scope outside of them and its arguments, or a name of the language.
+#[derive(Clone, Copy)]
+pub(crate) enum Called<'s> {
+    Body(&'s Tree, &'s [String], Scope<'s>, &'s [Tree]),
+    Builtin(Builtin, &'s [Tree]),
+    Unknown,
+}
+
 impl<'s> Context<'s> {
-    /// What `a(f; g)` runs.
-    pub(crate) fn called(&self, name: &Name, arguments: &Vec<Tree>) -> Found<'s>
-        ensures { Calls self.now (form.call (name_of name.now) (trees_of (map named arguments.now.items))) arguments.now.items result }
+    /// What a call runs.
+    pub(crate) fn called(&self, tree: &'s Tree) -> Called<'s>
+        ensures { Calls self.now (named tree.now) result }
     {
-        let count = arguments.len();
-        match callee_of(self.scope, name, count) {
-            Found::Function(function, own) => Found::Function(function, own),
-            Found::Closure(body, own) => Found::Closure(body, own),
-            Found::Builtin(_) => Found::Nothing,
-            Found::Nothing => Found::Builtin(builtin_named(name.text.as_str(), count)),
+        match tree {
+            Tree::Call(name, arguments) => self.called_by_name(name, arguments.as_slice()),
+            Tree::PreludeCall(name, arguments) => {
+                self.called_in_prelude(name, arguments.as_slice())
+            }
+            _ => Called::Unknown,
         }
     }
 
-    /// What a call of the prelude's own function runs.
-    pub(crate) fn called_in_prelude(&self, name: &Name, arguments: &Vec<Tree>) -> Found<'s>
-        ensures { Calls self.now (form.prelude_call (name_of name.now) (trees_of (map named arguments.now.items))) arguments.now.items result }
+    // What `a(f; g)` runs.
+    fn called_by_name(&self, name: &Name, arguments: &'s [Tree]) -> Called<'s>
+        ensures { Calls self.now (form.call (name_of name.now) (trees_of (map named arguments.now))) result }
     {
         let count = arguments.len();
-        match prelude_of(self.scope, name, count) {
-            Found::Function(function, own) => Found::Function(function, own),
-            _ => Found::Nothing,
+        match callee_of(self.scope, name, count) {
+            Found::Function(function, own) => {
+                Called::Body(
+                    &function.body,
+                    function.parameters.as_slice(),
+                    own,
+                    arguments,
+                )
+            }
+            Found::Closure(body, own) => Called::Body(body, &[], own, arguments),
+            Found::Nothing => Called::Builtin(builtin_named(name.text.as_str(), count), arguments),
+        }
+    }
+
+    // What a call of the prelude's own function runs.
+    fn called_in_prelude(&self, name: &Name, arguments: &'s [Tree]) -> Called<'s>
+        ensures { Calls self.now (form.prelude_call (name_of name.now) (trees_of (map named arguments.now))) result }
+    {
+        match prelude_of(self.scope, name, arguments.len()) {
+            Found::Function(function, own) => {
+                Called::Body(
+                    &function.body,
+                    function.parameters.as_slice(),
+                    own,
+                    arguments,
+                )
+            }
+            _ => Called::Unknown,
         }
     }
 
@@ -107,12 +138,11 @@ fn callee_of<'s>(scope: &Scope<'s>, name: &Name, count: usize) -> Found<'s>
                 callee_of(outer, name, count)
             }
         }
-        Scope::Call(own, function, arguments, caller) => {
+        Scope::Call(own, parameters, arguments, caller) => {
             if count > 0 {
                 return callee_of(own, name, count);
             }
-            let parameters = function.parameters.as_slice();
-            match argument_of(parameters, arguments.as_slice(), name, None) {
+            match argument_of(parameters, arguments, name, None) {
                 Some(argument) => Found::Closure(argument, **caller),
                 None => callee_of(own, name, count),
             }

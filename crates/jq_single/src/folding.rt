@@ -1,5 +1,5 @@
 // Folds (`reduce`), whose state each step changes in place.
-ghost use Rattle.std.specs.Prelude.{◌≡◌, ◌∷◌, [], IfSome, OnOk};
+ghost use Rattle.std.specs.Prelude.{◌≡◌, IfSome, OnOk};
 ghost use Rattle.jv_data.specs.Text.{text_of};
 ghost use Rattle.jv_data.specs.View.{view};
 ghost use Rattle.jq_ast.specs.Named.{named, named_as_pattern};
@@ -67,9 +67,9 @@ impl<'s> Context<'s> {
             ..*self
         };
         match tried.collect(source, value, 2, &mut values) {
-            Ok(()) => match single_of(values.as_slice()) {
-                Some(single) => self.step(name, update, single, value),
-                None => self.change_from(source, name, start, update, value),
+            Ok(()) => match values.as_slice() {
+                [single] => self.step(name, update, single, value),
+                _ => self.change_from(source, name, start, update, value),
             },
             Err(_stop) => self.change_from(source, name, start, update, value),
         }
@@ -197,16 +197,6 @@ impl<'s> Context<'s> {
             Err(Stop::NoMemory) => Err(Stop::NoMemory),
             Err(Stop::Unknown) => Err(Stop::Unknown),
         }
-    }
-}
-
-/// The value of a list of one value.
-pub(crate) fn single_of(values: &[Val]) -> Option<&Val>
-    ensures { IfSome result (λ v. values.now ≡ v.now ∷ []) }
-{
-    match values {
-        [single] => Some(single),
-        _ => None,
     }
 }
 

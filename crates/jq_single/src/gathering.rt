@@ -5,8 +5,7 @@ ghost use Rattle.jq_tree.specs.Tree.{trees_of};
 ghost use Rattle.jq_operations.specs.Language.{meaning_of};
 ghost use Rattle.jq_state.specs.Items.{item_of};
 ghost use Rattle.jq_operations.specs.Entering.{defined};
-ghost use Rattle.jq_single.specs.private.Gathering.{GathersAll, GathersBelow, GathersBuiltin, GathersOf, Gathers, GathersRun, given_of, made, numbers_from, supplied};
-ghost use Rattle.jq_single.specs.private.Parts.{Calls};
+ghost use Rattle.jq_single.specs.private.Gathering.{GathersAll, GathersBuiltin, GathersOf, Gathers, GathersRun, given_of, made, numbers_from, supplied};
 ghost use Rattle.jv_data.specs.Value.{Value};
 ghost use Rattle.jv_data.specs.View.{view};
 ghost use Rattle.jq_meaning.specs.machine.Operations.{result_of};
@@ -21,7 +20,7 @@ ghost use Rattle.jq_meaning.specs.Builtins as meaning;
 
 use crate::changing::scope_of_call;
 use crate::contexts::Context;
-use crate::finding::Found;
+use crate::finding::Called;
 use crate::rests::Rest;
 use crate::scopes::Scope;
 use crate::stops::Stop;
@@ -70,15 +69,20 @@ impl<'s> Context<'s> {
         match tree {
             Tree::Identity => inside.give(item.copy()?, rest, into),
             Tree::Iterate(target, guarded) => {
-                inside.gather_parts(target, *guarded, item, rest, into)
+                let next = Rest::Parts(*guarded, &*rest);
+                (&inside).gather(&**target, item, &next, into)
             }
             Tree::Field(target, key, guarded) if item.path.is_present() => {
-                inside.gather_field(target, key, *guarded, item, rest, into)
+                let next = Rest::Field(&*key, *guarded, &*rest);
+                (&inside).gather(&**target, item, &next, into)
             }
             Tree::Index(target, key, guarded) if item.path.is_present() => {
                 inside.gather_index(target, key, *guarded, item, rest, into)
             }
-            Tree::Pipe(first, second) => inside.gather_pipe(first, second, item, rest, into),
+            Tree::Pipe(first, second) => {
+                let next = Rest::Then(&**second, &inside, &*rest);
+                (&inside).gather(&**first, item, &next, into)
+            }
             Tree::Comma(first, second) => inside.gather_comma(first, second, item, rest, into),
             Tree::Choice(condition, holds, fails) => {
                 inside.gather_choice(condition, holds, fails, item, rest, into)
@@ -89,12 +93,8 @@ impl<'s> Context<'s> {
             Tree::Define(function, later) => {
                 inside.gather_define(function, later, item, rest, into)
             }
-            Tree::Call(name, arguments) => {
-                inside.gather_call(inside.called(name, arguments), arguments, item, rest, into)
-            }
-            Tree::PreludeCall(name, arguments) => {
-                let found = inside.called_in_prelude(name, arguments);
-                inside.gather_call(found, arguments, item, rest, into)
+            Tree::Call(_, _) | Tree::PreludeCall(_, _) => {
+                inside.gather_call(tree, item, rest, into)
             }
             _ => inside.gather_one(tree, item, rest, into),
         }
@@ -140,40 +140,6 @@ impl<'s> Context<'s> {
             }
             Err(stop) => ended(stop),
         }
-    }
-
-    // `f[]`.
-    #[cycle(single)]
-    #[inline(never)]
-    fn gather_parts(
-        &self,
-        target: &'s Tree,
-        guarded: bool,
-        item: &Item,
-        rest: &Rest<'s>,
-        into: &mut Vec<Val>,
-    ) -> Result<(), Stop>
-        ensures { GathersOf self.now (form.iterate (named target.now) guarded) (item_of item.now) rest.now result into.old.items into.new.items }
-    {
-        let next = Rest::Parts(guarded, &*rest);
-        (&*self).gather(&*target, item, &next, into)
-    }
-
-    // `f | g`.
-    #[cycle(single)]
-    #[inline(never)]
-    fn gather_pipe(
-        &self,
-        first: &'s Tree,
-        second: &'s Tree,
-        item: &Item,
-        rest: &Rest<'s>,
-        into: &mut Vec<Val>,
-    ) -> Result<(), Stop>
-        ensures { GathersOf self.now (form.pipe (named first.now) (named second.now)) (item_of item.now) rest.now result into.old.items into.new.items }
-    {
-        let next = Rest::Then(&*second, &*self, &*rest);
-        (&*self).gather(&*first, item, &next, into)
     }
 
     // `f, g`.
@@ -266,53 +232,36 @@ impl<'s> Context<'s> {
         inside.gather(&*later, item, &*rest, into)
     }
 
-    // A call, by what it finds.
+    // A call, by what it runs. A body is run with a call depth that is smaller by one.
     #[cycle(single)]
     #[inline(never)]
     fn gather_call(
         &self,
-        found: Found<'s>,
-        arguments: &'s Vec<Tree>,
+        tree: &'s Tree,
         item: &Item,
         rest: &Rest<'s>,
         into: &mut Vec<Val>,
     ) -> Result<(), Stop>
-        ensures { (t : form.Tree) → Calls self.now t arguments.now.items found.entry → GathersOf self.now t (item_of item.now) rest.now result into.old.items into.new.items }
+        ensures { GathersOf self.now (named tree.now) (item_of item.now) rest.now result into.old.items into.new.items }
     {
-        match found {
-            Found::Function(function, own) => {
-                let scope = scope_of_call(&own, &*function, &*arguments, &*self.scope);
-                (&*self).gather_body(&function.body, &scope, item, &*rest, into)
+        match self.called(tree) {
+            Called::Body(body, parameters, own, arguments) => {
+                if self.depth == 0 {
+                    return Err(Stop::Unknown);
+                }
+                let scope = scope_of_call(&own, &*parameters, &*arguments, &*self.scope);
+                let inside = Context {
+                    scope: &scope,
+                    depth: self.depth - 1,
+                    ..*self
+                };
+                inside.gather(&*body, item, &*rest, into)
             }
-            Found::Closure(body, own) => self.gather_body(body, &own, item, rest, into),
-            Found::Builtin(builtin) => {
-                self.gather_builtin(builtin, arguments.as_slice(), item, rest, into)
+            Called::Builtin(builtin, arguments) => {
+                self.gather_builtin(builtin, arguments, item, rest, into)
             }
-            Found::Nothing => Err(Stop::Unknown),
+            Called::Unknown => Err(Stop::Unknown),
         }
-    }
-
-    // Runs a body in its own scope, with a call depth that is smaller by one.
-    #[cycle(single)]
-    fn gather_body(
-        &self,
-        body: &'s Tree,
-        own: &Scope<'s>,
-        item: &Item,
-        rest: &Rest<'s>,
-        into: &mut Vec<Val>,
-    ) -> Result<(), Stop>
-        ensures { GathersBelow self.now own.now (named body.now) (item_of item.now) rest.now result into.old.items into.new.items }
-    {
-        if self.depth == 0 {
-            return Err(Stop::Unknown);
-        }
-        let inside = Context {
-            scope: &*own,
-            depth: self.depth - 1,
-            ..*self
-        };
-        inside.gather(&*body, item, &*rest, into)
     }
 
     // A name of the language, whose answer replaces a copy of the input. On an item with a path it is not run at once.
@@ -453,24 +402,6 @@ impl<'s> Context<'s> {
             }
         }
         Ok(())
-    }
-
-    // `f.a` on an item with a path.
-    #[cycle(single)]
-    #[inline(never)]
-    fn gather_field(
-        &self,
-        target: &'s Tree,
-        key: &'s Key,
-        guarded: bool,
-        item: &Item,
-        rest: &Rest<'s>,
-        into: &mut Vec<Val>,
-    ) -> Result<(), Stop>
-        ensures { GathersOf self.now (form.field (named target.now) (key_of key.now) guarded) (item_of item.now) rest.now result into.old.items into.new.items }
-    {
-        let next = Rest::Field(&*key, guarded, &*rest);
-        (&*self).gather(&*target, item, &next, into)
     }
 
     // `f[g]` on an item with a path: the key is run first.

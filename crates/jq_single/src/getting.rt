@@ -10,7 +10,7 @@ ghost use Rattle.jv_data.specs.Text.{text_of};
 ghost use Rattle.jv_text.specs.Formats.{Text};
 ghost use Rattle.jq_operations.specs.Outputs.{Inserts};
 ghost use Rattle.jq_operations.specs.Pieces.{named_pieces};
-ghost use Rattle.jq_single.specs.private.Making.{AddsEntry, AddsKeyed, AddsMember, RunsPieces, TextAnswers};
+ghost use Rattle.jq_single.specs.private.Making.{AddsEntry, AddsMember, RunsPieces, TextAnswers};
 ghost use Rattle.jv_data.specs.Held.{members_in};
 ghost use Rattle.jq_state.specs.Steps.{named_entries};
 ghost use Rattle.jq_tree.specs.Tree as form;
@@ -41,14 +41,14 @@ impl<'s> Context<'s> {
             ..*self
         };
         match tree {
-            Tree::Binary(_, _, _) => inside.get_changed(tree, value),
-            Tree::Choice(_, _, _) => inside.get_changed(tree, value),
-            Tree::BindAs(_, _, _) => inside.get_changed(tree, value),
-            Tree::Define(_, _) => inside.get_changed(tree, value),
-            Tree::Call(_, _) => inside.get_changed(tree, value),
-            Tree::PreludeCall(_, _) => inside.get_changed(tree, value),
-            Tree::Update(_, _) => inside.get_changed(tree, value),
-            Tree::Reduce(_, _, _, _) => inside.get_changed(tree, value),
+            Tree::Binary(_, _, _)
+            | Tree::Choice(_, _, _)
+            | Tree::BindAs(_, _, _)
+            | Tree::Define(_, _)
+            | Tree::Call(_, _)
+            | Tree::PreludeCall(_, _)
+            | Tree::Update(_, _)
+            | Tree::Reduce(_, _, _, _) => inside.get_changed(tree, value),
             _ => inside.get_made(tree, value),
         }
     }
@@ -120,10 +120,8 @@ impl<'s> Context<'s> {
             ..*self
         };
         let mut output = value.copy()?;
-        match inside.change_form(tree, &mut output) {
-            Ok(()) => Ok(output),
-            Err(stop) => Err(stop),
-        }
+        inside.change_form(tree, &mut output)?;
+        Ok(output)
     }
 
     // `f.a`, or the part of the output of a filter at a key that is known.
@@ -263,10 +261,7 @@ impl<'s> Context<'s> {
     ) -> Result<Val, Stop>
         ensures { RunsTo self.now (form.text (name_of format.now) (named_pieces pieces.now last.now)) (view value.now) result }
     {
-        match self.pieces(format, pieces, last, value) {
-            Ok(text) => Ok(Val::Text(text)),
-            Err(stop) => Err(stop),
-        }
+        Ok(Val::Text(self.pieces(format, pieces, last, value)?))
     }
 
     // The text of the remaining pieces.
@@ -348,7 +343,7 @@ impl<'s> Context<'s> {
         }
     }
 
-    // An entry with a computed key, which is run first.
+    // An entry with a computed key, which is run first. It must be a string.
     #[cycle(single)]
     #[inline(never)]
     fn computed(
@@ -361,24 +356,10 @@ impl<'s> Context<'s> {
         ensures { AddsEntry self.now (form.computed (named key.now) (named filter.now)) (members_in made) (view value.now) result }
     {
         let found = self.get(key, value)?;
-        self.keyed(found, filter, made, value)
-    }
-
-    // The key of an entry is known. It must be a string.
-    #[cycle(single)]
-    fn keyed(
-        &self,
-        key: Val,
-        filter: &'s Tree,
-        made: Object<Val>,
-        value: &Val,
-    ) -> Result<Object<Val>, Stop>
-        ensures { AddsKeyed self.now (view key) (named filter.now) (members_in made) (view value.now) result }
-    {
-        let Val::Text(_) = &key else {
+        let Val::Text(_) = &found else {
             return Err(Stop::Raised(key_error(self.alloc)?));
         };
-        self.member(&key.into_text(), filter, made, value)
+        self.member(&found.into_text(), filter, made, value)
     }
 
     // An entry whose key is known.

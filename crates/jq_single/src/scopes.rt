@@ -22,5 +22,5 @@ pub(crate) enum Scope<'s> {
     Run(Outside<'s>),
     Value(&'s Scope<'s>, &'s String, &'s Val),
     Function(&'s Scope<'s>, &'s Function<Tree>),
-    Call(&'s Scope<'s>, &'s Function<Tree>, &'s Vec<Tree>, &'s Scope<'s>),
+    Call(&'s Scope<'s>, &'s [String], &'s [Tree], &'s Scope<'s>),
 }

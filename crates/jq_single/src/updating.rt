@@ -1,5 +1,5 @@
 // Updates (`f |= g`): the paths of f are gathered once, and each part becomes the first output of g, the only one that counts.
-ghost use Rattle.std.specs.Prelude.{◌≡◌, ◌++◌, ◌∷◌, [], IfOk, IfSome, Ok, OnOk, map};
+ghost use Rattle.std.specs.Prelude.{◌≡◌, ◌++◌, ◌∷◌, [], IfOk, IfSome, Ok, OnOk, length, map};
 ghost use Rattle.jv_data.specs.Value.{Value};
 ghost use Rattle.jv_data.specs.View.{view};
 ghost use Rattle.jv_value.specs.GetPath.{getpath_of};
@@ -16,7 +16,6 @@ ghost use Rattle.jq_tree.specs.Tree as form;
 use crate::changing::call_on;
 use crate::contexts::Context;
 use crate::finding::has_modify;
-use crate::folding::single_of;
 use crate::gathering::start_at;
 use crate::rests::Rest;
 use crate::stops::Stop;
@@ -72,9 +71,11 @@ impl<'s> Context<'s> {
         let Ok(found) = self.paths_of(paths, value) else {
             return Err(Stop::Unknown);
         };
-        match single_of(found.as_slice()) {
-            Some(path) if !self.kept => self.change_one(path, update, value),
-            _ => self.change_copied(found.as_slice(), update, value),
+        let found = found.as_slice();
+        if found.len() == 1 && !self.kept {
+            self.change_each(found, update, value)
+        } else {
+            self.change_copied(found, update, value)
         }
     }
 
@@ -89,19 +90,6 @@ impl<'s> Context<'s> {
         let mut paths = Vec::new(self.alloc);
         (&*self).gather(&*tree, &start, &path, &mut paths)?;
         Ok(paths)
-    }
-
-    // The part at one path.
-    #[cycle(single)]
-    fn change_one(&self, path: &Val, update: &'s Tree, value: &mut Val) -> Result<(), Stop>
-        ensures runs { TakesTurns self.now (named update.now) (view path.now ∷ []) (view value.old) (view value.new) result }
-        ensures keeps { Keeps result (view value.old) (view value.new) }
-    {
-        let mut without = Vec::new(self.alloc);
-        match self.change_part(path, update, value, &mut without) {
-            Ok(()) => delete_listed(self.alloc, value, without),
-            Err(stop) => Err(stop),
-        }
     }
 
     // The parts at some paths, in a copy of the value.
@@ -126,7 +114,8 @@ impl<'s> Context<'s> {
     // One part after the other. The parts at the listed paths are deleted at the end.
     #[cycle(single)]
     fn change_each(&self, paths: &[Val], update: &'s Tree, value: &mut Val) -> Result<(), Stop>
-        ensures { TakesTurns self.now (named update.now) (map view paths.now) (view value.old) (view value.new) result }
+        ensures runs { TakesTurns self.now (named update.now) (map view paths.now) (view value.old) (view value.new) result }
+        ensures keeps { length paths.now ≡ 1 → Keeps result (view value.old) (view value.new) }
     {
         let mut without = Vec::new(self.alloc);
         for path in paths {

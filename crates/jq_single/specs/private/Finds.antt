@@ -19,7 +19,6 @@ use Rattle.jq_single.specs.private.Scopes.{scope_env}
 abbrev pub found_in : Run Value → Found → meaning.Callee
 found_in inputs (found.Function f own) = callees.found f.now (scope_env inputs own)
 found_in inputs (found.Closure t own) = found_closure (named t.now) (scope_env inputs own)
-found_in inputs (found.Builtin b) = no_callee
 found_in inputs found.Nothing = no_callee
 
 -- A name without arguments finds an argument, with the caller's environment, or what it finds in another environment.

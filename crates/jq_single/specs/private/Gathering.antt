@@ -18,7 +18,7 @@ use Rattle.jq_meaning.specs.Steps.{each_part}
 use Rattle.jq_state.specs.Items.{item_of}
 use Rattle.jq_state.specs.declared.items.Item as items
 use Rattle.jq_single.specs.Single.{Changed, Comes, Ends}
-use Rattle.jq_single.specs.private.Parts.{ChangesTo, body_in, builtin_in, run}
+use Rattle.jq_single.specs.private.Parts.{ChangesTo, builtin_in, run}
 use Rattle.jq_single.specs.private.Scopes.{scope_env}
 use Rattle.jq_single.specs.declared.contexts.Context.{Context}
 use Rattle.jq_single.specs.declared.gathering.Numbers.{Numbers}
@@ -26,7 +26,6 @@ use Rattle.jq_single.specs.declared.gathering.Supply.{Supply}
 use Rattle.jq_single.specs.declared.gathering.Supply.TheVariants as supply
 use Rattle.jq_single.specs.declared.rests.Rest.{Rest}
 use Rattle.jq_single.specs.declared.rests.Rest.TheVariants as rest
-use Rattle.jq_single.specs.declared.scopes.Scope.{Scope}
 use Rattle.jq_single.specs.declared.stops.Stop.{Stop}
 
 -- The rest of the filter, applied to an output.
@@ -84,11 +83,7 @@ abbrev pub GathersOf : {A : Type 0} → Context → Tree → Item → Rest → R
 GathersOf p t x later result xs ys =
     (inputs : Run Value) (level : ℕ) → Gathers (made inputs level later) result xs ys (bind (run p inputs level t x) (rest_run inputs level later))
 
--- The same for a body in its own scope, with a call depth that is smaller by one, and for a name of the language.
-abbrev pub GathersBelow : {A : Type 0} → Context → Scope → Tree → Item → Rest → Result A Stop → (before later : List Val) → Type 0
-GathersBelow p own t x later result xs ys =
-    (inputs : Run Value) (level : ℕ) → Gathers (made inputs level later) result xs ys (bind (body_in own p.depth inputs level t x) (rest_run inputs level later))
-
+-- The same for a name of the language.
 abbrev pub GathersBuiltin : {A : Type 0} → Context → Builtin → Trees → Item → Rest → Result A Stop → (before later : List Val) → Type 0
 GathersBuiltin p b ts x later result xs ys =
     (inputs : Run Value) (level : ℕ) → Gathers (made inputs level later) result xs ys (bind (builtin_in p inputs level b ts x) (rest_run inputs level later))

@@ -1,11 +1,10 @@
 -- The outputs of the parts of a filter that has at most one output.
-use Rattle.std.specs.Prelude.{◌≡◌, ℕ, Bool, true, false, List, map, Result}
+use Rattle.std.specs.Prelude.{◌≡◌, ℕ, Bool, true, false, map, Result}
 use Rattle.jq_natives.specs.declared.native.Native.{Native}
 use Rattle.jv_data.specs.Value.{Value}
 use Rattle.jv_data.specs.View.{view}
 use Rattle.jv_data.specs.declared.values.Val.{Val}
 use Rattle.jq_ast.specs.Named.{named}
-use Rattle.jq_ast.specs.declared.tree.Tree as ast
 use Rattle.jq_tree.specs.Tree.{Tree, Trees, conjunction, disjunction, trees_of}
 use Rattle.jq_meaning.specs.Builtins.{Builtin, builtin_run, each_choice, plain_native}
 use Rattle.jq_meaning.specs.Env.{find_inputs}
@@ -14,9 +13,8 @@ use Rattle.jq_meaning.specs.Runs.{Item, plain, Run, one, bind}
 use Rattle.jq_operations.specs.Language.{meaning_of}
 use Rattle.jq_single.specs.Single.{Changed, Comes}
 use Rattle.jq_single.specs.private.Scopes.{body_env, scope_env}
-use Rattle.jq_single.specs.declared.finding.Found.{Found}
-use Rattle.jq_single.specs.declared.finding.Found.TheVariants as found
-use Rattle.jq_single.specs.declared.scopes.Scope.{Scope}
+use Rattle.jq_single.specs.declared.finding.Called.{Called}
+use Rattle.jq_single.specs.declared.finding.Called.TheVariants as called
 use Rattle.jq_single.specs.declared.contexts.Context.{Context}
 use Rattle.jq_single.specs.declared.stops.Stop.{Stop}
 
@@ -35,13 +33,6 @@ RunsTo p t v result = (inputs : Run Value) (level : ℕ) → Answers result (run
 -- The same where the output replaces the value.
 abbrev pub ChangesTo : {A : Type 0} → Context → Tree → (before later : Value) → Result A Stop → Type 0
 ChangesTo p t v w result = (inputs : Run Value) (level : ℕ) → Changed result w (run p inputs level t (plain v))
-
--- The run of a body in its own scope, with a call depth that is smaller by one.
-abbrev pub body_in : Scope → (depth : ℕ) → Run Value → (level : ℕ) → Tree → Item → Run Item
-body_in own depth inputs level t x = below depth t (scope_env inputs own) level x
-
-abbrev pub ChangesBelow : {A : Type 0} → Context → Scope → Tree → (before later : Value) → Result A Stop → Type 0
-ChangesBelow p own t v w result = (inputs : Run Value) (level : ℕ) → Changed result w (body_in own p.depth inputs level t (plain v))
 
 -- The run of a tree, followed by another filter.
 abbrev pub Follows : Context → Tree → Value → (Item → Run Item) → Result Val Stop → Type 0
@@ -75,10 +66,9 @@ ChangesByBuiltin p b ts v w result = (inputs : Run Value) (level : ℕ) → Chan
 abbrev pub ChangesByNative : {A : Type 0} → Context → Native → Trees → (before later : Value) → Result A Stop → Type 0
 ChangesByNative p f ts v w result = (inputs : Run Value) (level : ℕ) → Changed result w (native_in p inputs level f ts v)
 
--- What a call finds says what its tree runs.
-abbrev pub Calls : Context → Tree → List ast.Tree → Found → Type 0
-Calls p t ts (found.Function f own) =
-    (inputs : Run Value) (level : ℕ) (x : Item) → run p inputs level t x ≡ below p.depth (named f.now.body) (body_env f.now ts (scope_env inputs p.scope.now) (scope_env inputs own)) level x
-Calls p t ts (found.Closure body own) = (inputs : Run Value) (level : ℕ) (x : Item) → run p inputs level t x ≡ body_in own p.depth inputs level (named body.now) x
-Calls p t ts (found.Builtin b) = (inputs : Run Value) (level : ℕ) (x : Item) → run p inputs level t x ≡ builtin_in p inputs level (meaning_of b) (trees_of (map named ts)) x
-Calls p t ts found.Nothing = Unit {0}
+-- What a call runs is the run of its tree.
+abbrev pub Calls : Context → Tree → Called → Type 0
+Calls p t (called.Body body ps own ts) =
+    (inputs : Run Value) (level : ℕ) (x : Item) → run p inputs level t x ≡ below p.depth (named body.now) (body_env ps.now ts.now (scope_env inputs p.scope.now) (scope_env inputs own)) level x
+Calls p t (called.Builtin b ts) = (inputs : Run Value) (level : ℕ) (x : Item) → run p inputs level t x ≡ builtin_in p inputs level (meaning_of b) (trees_of (map named ts.now)) x
+Calls p t called.Unknown = Unit {0}

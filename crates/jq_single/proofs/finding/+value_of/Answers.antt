@@ -20,5 +20,5 @@ returns-in-Call t c =
     let finds : Env → Value = find_value (name_of c.args.name.now) in
     carried c.value_of-in-Call.result (λ inputs. finds (scope_env inputs c.in-Call.own.now)) (λ inputs. finds (scope_env inputs c.args.scope.now))
     (λ inputs. sym (ap finds (ap (scope_env inputs) c.in-Call.is)
-    ∙ past finds (λ p t caller e. refl) (map text_of c.in-Call.field-1.now.parameters.items) (trees_of (map named c.in-Call.field-2.now.items)) (scope_env inputs c.in-Call.field-3.now) (scope_env inputs c.in-Call.own.now)))
+    ∙ past finds (λ p t caller e. refl) (map text_of c.in-Call.field-1.now) (trees_of (map named c.in-Call.field-2.now)) (scope_env inputs c.in-Call.field-3.now) (scope_env inputs c.in-Call.own.now)))
     c.value_of-in-Call.ensures

@@ -66,9 +66,6 @@ decreases-with_entry l = 32 * l.self.now.fuel + 9
 abbrev pub decreases-computed : goal.decreases-computed
 decreases-computed l = 32 * l.self.now.fuel + 8
 
-abbrev pub decreases-keyed : goal.decreases-keyed
-decreases-keyed l = 32 * l.self.now.fuel + 7
-
 abbrev pub decreases-member : goal.decreases-member
 decreases-member l = 32 * l.self.now.fuel + 6
 
@@ -99,9 +96,6 @@ decreases-change l = 32 * l.self.now.fuel
 abbrev pub decreases-change_form : goal.decreases-change_form
 decreases-change_form l = 32 * l.self.now.fuel + 16
 
-abbrev pub decreases-change_kept : goal.decreases-change_kept
-decreases-change_kept l = 32 * l.self.now.fuel + 14
-
 abbrev pub decreases-change_binary : goal.decreases-change_binary
 decreases-change_binary l = 32 * l.self.now.fuel + 4
 
@@ -116,9 +110,6 @@ decreases-change_binding l = 32 * l.self.now.fuel + 3
 
 abbrev pub decreases-change_call : goal.decreases-change_call
 decreases-change_call l = 32 * l.self.now.fuel + 11
-
-abbrev pub decreases-change_body : goal.decreases-change_body
-decreases-change_body l = 32 * l.self.now.fuel + 5
 
 abbrev pub decreases-change_builtin : goal.decreases-change_builtin
 decreases-change_builtin l = 32 * l.self.now.fuel + 10
@@ -147,9 +138,6 @@ decreases-change_parts l = 32 * l.self.now.fuel + 9
 abbrev pub decreases-paths_of : goal.decreases-paths_of
 decreases-paths_of l = 32 * l.self.now.fuel + 5
 
-abbrev pub decreases-change_one : goal.decreases-change_one
-decreases-change_one l = 32 * l.self.now.fuel + 8
-
 abbrev pub decreases-change_copied : goal.decreases-change_copied
 decreases-change_copied l = 32 * l.self.now.fuel + 8
 
@@ -171,17 +159,8 @@ decreases-gather l = 32 * l.self.now.fuel
 abbrev pub decreases-gather_one : goal.decreases-gather_one
 decreases-gather_one l = 32 * l.self.now.fuel + 6
 
-abbrev pub decreases-gather_parts : goal.decreases-gather_parts
-decreases-gather_parts l = 32 * l.self.now.fuel + 5
-
-abbrev pub decreases-gather_field : goal.decreases-gather_field
-decreases-gather_field l = 32 * l.self.now.fuel + 5
-
 abbrev pub decreases-gather_index : goal.decreases-gather_index
 decreases-gather_index l = 32 * l.self.now.fuel + 5
-
-abbrev pub decreases-gather_pipe : goal.decreases-gather_pipe
-decreases-gather_pipe l = 32 * l.self.now.fuel + 5
 
 abbrev pub decreases-gather_comma : goal.decreases-gather_comma
 decreases-gather_comma l = 32 * l.self.now.fuel + 5
@@ -197,9 +176,6 @@ decreases-gather_define l = 32 * l.self.now.fuel + 5
 
 abbrev pub decreases-gather_call : goal.decreases-gather_call
 decreases-gather_call l = 32 * l.self.now.fuel + 13
-
-abbrev pub decreases-gather_body : goal.decreases-gather_body
-decreases-gather_body l = 32 * l.self.now.fuel + 5
 
 abbrev pub decreases-gather_builtin : goal.decreases-gather_builtin
 decreases-gather_builtin l = 32 * l.self.now.fuel + 12
@@ -237,9 +213,10 @@ decreases-give_all-loop-item l = length (supplied l.supply).items
 
 abbrev pub invariant-change_each-loop-path : goal.invariant-change_each-loop-path
 invariant-change_each-loop-path l =
-    (inputs : Run Value) (level : ℕ)
+    ((inputs : Run Value) (level : ℕ)
     → turns level (part_run l.self inputs level (named l.update)) (map view (drop l.path-index l.paths)) Done (view l.value) (listed l.without.items)
-    ≡ turns level (part_run l.self inputs level (named l.update)) (map view l.paths) Done (view l.initial.value) (array (items_of []))
+    ≡ turns level (part_run l.self inputs level (named l.update)) (map view l.paths) Done (view l.initial.value) (array (items_of [])))
+    × (l.path-index ≡ 0 → view l.value ≡ view l.initial.value)
 
 abbrev pub invariant-object-loop-entry : goal.invariant-object-loop-entry
 invariant-object-loop-entry l =

@@ -1,30 +1,18 @@
-use Rattle.std.proofs.Common.{◌∙◌, ◌≡◌, length, ap}
-use Rattle.std.specs.Str.{chars}
+use Rattle.std.proofs.Common.{◌∙◌, map, ap, sym, subst}
 use Rattle.jq_ast.specs.Named.{name_of, named}
-use Rattle.jq_meaning.specs.Builtins.{builtin_named}
-use Rattle.jq_meaning.specs.Env.{find_callee, found_closure}
-use Rattle.jq_operations.specs.Callees.{found}
-use Rattle.jq_operations.specs.Language.{meaning_of}
-use Rattle.jq_single.specs.private.Scopes.{scope_env}
-use Rattle.jq_single.proofs.Calls.{builtin_runs, finds}
+use Rattle.jq_ast.proofs.shared.Forms.{named-Call, named-PreludeCall}
+use Rattle.jq_tree.specs.Tree.{Tree, call, prelude_call, trees_of}
+use Rattle.jq_single.specs.private.Parts.{Calls}
 use Rattle.jq_single.proofs.contexts.Context.called.Goals as goal
 
-pub returns-in-Function : goal.returns-in-Function
-returns-in-Function c = λ inputs level x.
-    let n = name_of c.args.name.now in
-    finds c.args.self.now inputs level n c.args.arguments.now.items (found c.in-Function.function.now (scope_env inputs c.in-Function.own)) x
-    (c.in-Function.ensures inputs ∙ ap (λ k. find_callee n k (scope_env inputs c.args.self.now.scope.now)) (c.len-count.ensures ∙ c.args.arguments.now.ok.0))
+pub returns-in-Call : goal.returns-in-Call
+returns-in-Call c =
+    subst (λ (t : Tree). Calls c.args.self.now t c.called_by_name.result)
+    (sym (ap named c.in-Call.is ∙ named-Call c.in-Call.name c.in-Call.arguments ∙ ap (λ ts. call (name_of c.in-Call.name) (trees_of (map named ts))) (sym c.as_slice.ensures.value)))
+    c.called_by_name.ensures
 
-pub returns-in-Closure : goal.returns-in-Closure
-returns-in-Closure c = λ inputs level x.
-    let n = name_of c.args.name.now in
-    finds c.args.self.now inputs level n c.args.arguments.now.items (found_closure (named c.in-Closure.body.now) (scope_env inputs c.in-Closure.own)) x
-    (c.in-Closure.ensures inputs ∙ ap (λ k. find_callee n k (scope_env inputs c.args.self.now.scope.now)) (c.len-count.ensures ∙ c.args.arguments.now.ok.0))
-
-pub returns-in-Nothing : goal.returns-in-Nothing
-returns-in-Nothing c = λ inputs level x.
-    let n = name_of c.args.name.now in
-    let count : c.len-count.result ≡ length c.args.arguments.now.items = c.len-count.ensures ∙ c.args.arguments.now.ok.0 in
-    builtin_runs c.args.self.now inputs level n c.args.arguments.now.items (meaning_of c.builtin_named.result) x
-    (c.in-Nothing.ensures inputs ∙ ap (λ k. find_callee n k (scope_env inputs c.args.self.now.scope.now)) count)
-    (c.builtin_named.ensures ∙ ap (λ bs. builtin_named (chars bs) c.len-count.result) c.as_str.ensures.value ∙ ap (builtin_named n) count)
+pub returns-in-PreludeCall : goal.returns-in-PreludeCall
+returns-in-PreludeCall c =
+    subst (λ (t : Tree). Calls c.args.self.now t c.called_in_prelude.result)
+    (sym (ap named c.in-PreludeCall.is ∙ named-PreludeCall c.in-PreludeCall.name c.in-PreludeCall.arguments ∙ ap (λ ts. prelude_call (name_of c.in-PreludeCall.name) (trees_of (map named ts))) (sym c.as_slice-in-PreludeCall.ensures.value)))
+    c.called_in_prelude.ensures
