@@ -10,7 +10,7 @@ use Rattle.jq_meaning.specs.Continuations.{truth, on_conjunct, on_disjunct, on_s
 use Rattle.jq_tree.specs.Tree.{Name, Tree}
 use Rattle.jq_meaning.specs.Env.{Env, bound, value_of}
 use Rattle.jq_meaning.specs.Meaning.{Means, below, bindings_with, meaning}
-use Rattle.jq_meaning.specs.Runs.{Item, plain, alternative, Run, one, fail, bind, value_in, Ending, Done, Raised, Broken, Stopped, none, before, then_run, bind_items, gathered, located, path_error, go_on}
+use Rattle.jq_meaning.specs.Runs.{Item, plain, Run, one, fail, bind, value_in, Ending, Done, Raised, Broken, Stopped, none, before, then_run, bind_items, gathered, located, path_error, go_on}
 use Rattle.jq_meaning.proofs.shared.machine.RunLaws.{bind-one, bind-bind, bind-one_right, bind-then_run, then_run-assoc, then_run-none}
 use Rattle.jq_single.specs.Single.{Ends, Comes, Keeps, Leaves}
 use Rattle.jq_single.specs.private.Gathering.{GoesOn, Gathers, GathersAll, given_of, made, rest_run, fold_run, folded, last_or, state_in, turn}
@@ -47,9 +47,6 @@ bind-known r x g e = ap (λ q. bind q g) e ∙ bind-one x g
 pub comes-bind : {V A B : Type 0} (to : V → Run B) (a : Result V Stop) (r : Run A) (x : A) (g : A → Run B) → r ≡ one x → Comes to a (g x) → Comes to a (bind r g)
 comes-bind to (Ok v) r x g e h = bind-known r x g e ∙ h
 comes-bind to (Err s) r x g e h = subst (Ends s) (sym (bind-known r x g e)) h
-
-pub ends-after : {A B : Type 0} (s : Stop) (r : Run A) (x : A) (g : A → Run B) → r ≡ one x → Ends s (g x) → Ends s (bind r g)
-ends-after s r x g e = subst (Ends s) (sym (bind-known r x g e))
 
 -- a value that is not changed is kept
 pub leaves_same : (s : Stop) (v : Value) → Leaves s v v
@@ -97,12 +94,6 @@ module _ (p : Context) (inputs : Run Value) (level : ℕ) (t u : Tree) (v : Valu
 pub truth_of : (l : Run Item) (w : Value) (b : Bool) → l ≡ one (plain w) → b ≡ is_true w → bind l truth ≡ one (plain (boolean b))
 unfolding truth
 truth_of l w b e t = bind-known l (plain w) truth e ∙ ap (λ c. one (plain (boolean c))) (sym t)
-
--- ---- errors
-
-pub alternative_known : (b : Bool) (r : Run Item) (g : Item → Run Item) (x : Item) (w : Value) → r ≡ one (plain w) → is_true w ≡ b → alternative r g x ≡ (if b then one (plain w) else g x)
-alternative_known true r g x w e t = ap (λ q. alternative q g x) e ∙ rw (t, alternative) refl
-alternative_known false r g x w e t = ap (λ q. alternative q g x) e ∙ rw (t, alternative) refl
 
 -- ---- variables
 

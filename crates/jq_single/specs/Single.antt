@@ -18,7 +18,7 @@ Ends (stop.Raised v) r = r ≡ fail (view v)
 Ends stop.NoMemory r = Unit {0}
 Ends stop.Unknown r = Unit {0}
 
--- A known run, by what was found, or a run without output.
+-- The run that a found value stands for, or a run without output.
 abbrev pub Comes : {V B : Type 0} → (V → Run B) → Result V Stop → Run B → Type 0
 Comes to (Ok v) r = r ≡ to v
 Comes to (Err s) r = Ends s r

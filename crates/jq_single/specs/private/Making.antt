@@ -22,7 +22,7 @@ use Rattle.jq_single.specs.declared.stops.Stop.{Stop}
 abbrev pub entries_in : Context → Run Value → (level : ℕ) → Entries → Value → Members → Run Item
 entries_in p inputs level es v made = entries_with (below p.depth) es (scope_env inputs p.scope.now) level v made
 
--- A member is added, whatever is done with the object, or nothing comes of a run.
+-- A member is added, whatever is done with the object, or the run has no output.
 abbrev pub Adds : Result (Object Val) Stop → (later : Members → Run Item) → Run Item → Type 0
 Adds a later r = Comes (λ o. later (members_in o)) a r
 
