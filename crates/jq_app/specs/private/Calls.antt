@@ -1,10 +1,14 @@
 -- What holds after a call if it returned a status, and if it returned a fault.
 use Rattle.std.specs.Prelude.{ℕ, Result, IfOk, IfErr}
+use Rattle.jq_devices.specs.Files.{bytes_left}
+use Rattle.jq_devices.specs.Watched.{device_of}
 use Rattle.jq_devices.specs.declared.faults.StreamFault.{StreamFault}
 use Rattle.jq_devices.specs.declared.opener.Opener as opener
+use Rattle.jq_devices.specs.declared.reader.FileReader.{FileReader}
 use Rattle.jq_devices.specs.declared.reader.UnnamedFiles.{UnnamedFiles}
 use Rattle.jq_devices.specs.declared.traits.Read as reader
 use Rattle.jq_devices.specs.declared.watched.Watched.{Watched}
+use Rattle.jq_stream.specs.Streams.{Streams}
 use Rattle.jq_stream.specs.Views.{StreamsView}
 use Rattle.jq_app.specs.Stages.{Files, Stage, files_by, stage_of}
 use Rattle.jq_app.specs.declared.counts.Counts.{Counts}
@@ -33,3 +37,9 @@ abbrev pub OnFilesFault : {F G R O E : Type 0} → opener.Ghosts F G → reader.
     → (relation : Files → StreamFault → (old new : Stage) → Type 0) → Type 0
 OnFilesFault opening file unnamed counts old ended relation =
     IfErr ended.result (λ fault. relation (files_by opening file unnamed ended.files) fault (stage_of old counts) (stage_of ended.streams ended.counts))
+
+-- ---- a run over the files
+
+-- the streams of a command with its files as the input: the bytes that they have left, and those on both outputs
+abbrev pub over : {F G I : Type 0} → opener.Ghosts F G → reader.Ghosts G → Watched (FileReader F G) → StreamsView I → Streams
+over opening file files devices = record { remaining = bytes_left opening.content file.remaining (device_of files); outputs = devices.bytes.outputs }

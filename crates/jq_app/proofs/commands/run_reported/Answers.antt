@@ -1,5 +1,4 @@
-use Rattle.std.proofs.Common.{inl, inr, refl}
-use Rattle.jq_app.specs.Stages.{stage_of}
+use Rattle.std.proofs.Common.{ap, ◌∙◌, inl, inr, refl}
 use Rattle.jq_app.proofs.Blaming.{later, written_unless_failed}
 use Rattle.jq_app.proofs.Outcomes.{err_at, ok_at}
 use Rattle.jq_app.proofs.commands.run_reported.Goals as goal
@@ -30,4 +29,5 @@ returns-in-Err-clause-served g c =
     }
 
 pub returns-in-Err-clause-unread : goal.returns-in-Err-clause-unread
-returns-in-Err-clause-unread g c = λ none. c.run_command-result.ensures.unread (λ needs. none (record { needs = needs }))
+returns-in-Err-clause-unread g c = λ none.
+    ap (λ s. s.input) c.streams-inside.view_is ∙ ap (λ s. s.input) c.streams.view_is ∙ c.run_command-result.ensures.unread (λ needs. none (record { needs = needs }))

@@ -17,5 +17,5 @@ returns-clause-served g c =
     let noted = c.into_noted.ensures in (
       _,
       shown_noted _ _ _ _ asks noted.noted,
-      noted_result _ _ _ _ _ _ _ _ _ _ noting.bytes noting.failures noted.remaining noted.output noted.failures c.run_reported-status.ensures.served,
+      noted_result _ _ _ c.args.streams c.noting.result c.run_reported-status.result.streams c.into_noted.result _ _ _ noting.bytes noting.failures noted.remaining noted.output noted.failures c.run_reported-status.ensures.served,
     )

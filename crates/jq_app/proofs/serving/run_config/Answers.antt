@@ -64,23 +64,22 @@ returns-then-no_file-clause-unread g c = λ reads_none.
 pub returns-clause-done : goal.returns-clause-done
 returns-clause-done g c =
     let left = bytes_left g.F.Opener.content g.F.File.Read.remaining in
+    let ended = c.run_over_files.result in
     let some : (shown c.args.config).files ≢ [] = some_names c.as_slice.result.now c.args.config.files.items c.as_slice.ensures.value (sym c.if-no_file.false ∙ c.is_empty-no_file.ensures) in
-    let done = rw (← c.over_files.view_is) at c.run_filter-result-2.ensures.done in
-    rw (← c.streams.view_is)
-    (done_by_files c.run_filter-result-2.result _ (shown c.args.config) c.as_str-text.result.now (left (device_of c.new-files.result)) (left (device_of c.over_files.inside.input)) _ _
-    c.if-live.false some c.as_str-text.ensures.value (ap left c.new-files.ensures.device ∙ c.named.ensures.whole) refl done)
+    done_by_files ended.result _ (shown c.args.config) c.as_str-text.result.now (left (device_of c.new-files.result)) (left (device_of ended.files))
+    (stage_of c.args.streams c.args.counts) (stage_of ended.streams ended.counts)
+    c.if-live.false some c.as_str-text.ensures.value (ap left c.new-files.ensures.device ∙ c.named.ensures.whole) (sym c.run_over_files.ensures.remaining) c.run_over_files.ensures.done
 
 pub returns-clause-stopped : goal.returns-clause-stopped
 returns-clause-stopped g c =
     let left = bytes_left g.F.Opener.content g.F.File.Read.remaining in
+    let ended = c.run_over_files.result in
     let some : (shown c.args.config).files ≢ [] = some_names c.as_slice.result.now c.args.config.files.items c.as_slice.ensures.value (sym c.if-no_file.false ∙ c.is_empty-no_file.ensures) in
-    let stopped = rw (← c.over_files.view_is) at c.run_filter-result-2.ensures.stopped in
-    rw (← c.streams.view_is)
-    (stopped_by_files c.run_filter-result-2.result _ (shown c.args.config) c.as_str-text.result.now (left (device_of c.new-files.result)) (left (device_of c.over_files.inside.input)) _ _
-    c.if-live.false some c.as_str-text.ensures.value (ap left c.new-files.ensures.device ∙ c.named.ensures.whole) refl stopped)
+    stopped_by_files ended.result _ (shown c.args.config) c.as_str-text.result.now (left (device_of c.new-files.result)) (left (device_of ended.files))
+    (stage_of c.args.streams c.args.counts) (stage_of ended.streams ended.counts)
+    c.if-live.false some c.as_str-text.ensures.value (ap left c.new-files.ensures.device ∙ c.named.ensures.whole) (sym c.run_over_files.ensures.remaining) c.run_over_files.ensures.stopped
 
 pub returns-clause-blamed : goal.returns-clause-blamed
 returns-clause-blamed g c =
-    let read = rw (← c.over_files.view_is) at c.run_filter-result-2.ensures.read_failed in
-    let write = rw (← c.over_files.view_is) at c.run_filter-result-2.ensures.write_failed in
-    rw (← c.streams.view_is) (blamed_by_files c.run_filter-result-2.result _ _ (failed_from c.run_filter-result-2.result 0 _ _ c.new-files.ensures.failures read) write)
+    let result = c.run_over_files.result.result in
+    blamed_by_files result _ _ (failed_from result 0 _ _ c.new-files.ensures.failures c.run_over_files.ensures.read_failed) c.run_over_files.ensures.write_failed
