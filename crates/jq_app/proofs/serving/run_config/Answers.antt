@@ -1,4 +1,4 @@
-use Rattle.std.proofs.Common.{◌≡◌, ◌≢◌, ◌∙◌, ◌+◌, [], inl, inr, refl, sym, ap, subst}
+use Rattle.std.proofs.Common.{◌≡◌, ◌≢◌, ◌∙◌, ◌+◌, [], inl, inr, sym, ap, subst}
 use Rattle.std.specs.Str.{chars}
 use Rattle.jq_cli.specs.Configuration.{shown}
 use Rattle.jq_devices.specs.Files.{bytes_left}
