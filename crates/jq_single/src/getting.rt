@@ -1,6 +1,7 @@
 // The output of a filter on a value that is kept: forms that make a value from those of their parts, and copies that others change.
 ghost use Rattle.std.specs.Prelude.{ℕ, List, []};
 ghost use Rattle.jv_data.specs.View.{view};
+ghost use Rattle.jq_ast.specs.Leaves.{operator_of};
 ghost use Rattle.jq_ast.specs.Named.{named, name_of, named_entry};
 ghost use Rattle.jq_single.specs.private.Parts.{RunsTo, Answers, Follows, GetsTwo, decided};
 ghost use Rattle.jq_meaning.specs.Continuations.{on_target, format_of, put_between, text_item};
@@ -18,10 +19,10 @@ ghost use Rattle.jq_tree.specs.Tree as form;
 use crate::contexts::Context;
 use crate::finding::value_of;
 use crate::stops::{Stop, answer, refused};
-use jq_ast::{Entry, Name, Piece, Tree};
+use jq_ast::{Entry, Name, Operator, Piece, Tree};
 use jq_natives::truth;
 use jq_operations::entries::with_member;
-use jq_operations::{Inserted, entry_key, key_error, literal, slice_key, text_in_format};
+use jq_operations::{Inserted, entry_key, key_error, literal, operated, slice_key, text_in_format};
 use jv_arith::neg;
 use jv_data::{Array, Fail, Object, SharedText, Val};
 use jv_value::index;
@@ -41,8 +42,7 @@ impl<'s> Context<'s> {
             ..*self
         };
         match tree {
-            Tree::Binary(_, _, _)
-            | Tree::Choice(_, _, _)
+            Tree::Choice(_, _, _)
             | Tree::BindAs(_, _, _)
             | Tree::Define(_, _)
             | Tree::Call(_, _)
@@ -98,6 +98,7 @@ impl<'s> Context<'s> {
             Tree::Index(target, key, guarded) => self.index(target, key, *guarded, value),
             Tree::Slice(target, from, to, guarded) => self.slice(target, from, to, *guarded, value),
             Tree::Pipe(first, second) => self.pipe(first, second, value),
+            Tree::Binary(operator, left, right) => self.binary(*operator, left, right, value),
             Tree::And(left, right) => self.decided(false, left, right, value),
             Tree::Or(left, right) => self.decided(true, left, right, value),
             Tree::Alternative(left, right) => self.alternative(left, right, value),
@@ -176,6 +177,26 @@ impl<'s> Context<'s> {
     {
         let between = self.get(first, value)?;
         self.get(second, &between)
+    }
+
+    // `f + g`: the right operand is run first.
+    #[cycle(single)]
+    #[inline(never)]
+    fn binary(
+        &self,
+        operator: Operator,
+        left: &'s Tree,
+        right: &'s Tree,
+        value: &Val,
+    ) -> Result<Val, Stop>
+        ensures { RunsTo self.now (form.binary (operator_of operator) (named left.now) (named right.now)) (view value.now) result }
+    {
+        if let Some(told) = self.compared(operator, left, right, value) {
+            return Ok(Val::Bool(told));
+        }
+        let second = self.get_part(right, value)?;
+        let first = self.get_part(left, value)?;
+        answer(operated(self.alloc, operator, first, &second))
     }
 
     // `-f`.

@@ -7,7 +7,7 @@ use Rattle.jv_data.specs.Value.{Value, array, items_of, string}
 use Rattle.jv_data.specs.Text.{text_of}
 use Rattle.jv_data.specs.View.{view}
 use Rattle.jv_data.specs.declared.values.Val.{Val}
-use Rattle.jq_ast.specs.Leaves.{key_of}
+use Rattle.jq_ast.specs.Leaves.{key_of, operator_of}
 use Rattle.jq_ast.specs.Named.{name_of, named, named_as_pattern}
 use Rattle.jq_ast.proofs.shared.Forms.{named-Field, named-Iterate, named-Pipe, named-Update, named-Object, named-Text, named-Whole}
 use Rattle.jq_tree.specs.Tree as form
@@ -19,7 +19,7 @@ use Rattle.jq_meaning.specs.Env.{bound, value_of}
 use Rattle.jq_meaning.specs.Steps.{each_part}
 use Rattle.jq_meaning.specs.Folds.{next_state, reduced}
 use Rattle.jq_meaning.specs.Meaning.{arguments_with, below, bindings_with, meaning, pieces_with}
-use Rattle.jq_meaning.specs.Continuations.{on_source, on_state, on_target, on_start, on_end, on_back, on_inserted, format_of, truth, on_test, on_error}
+use Rattle.jq_meaning.specs.Continuations.{on_source, on_state, on_target, on_start, on_end, on_back, on_inserted, format_of, truth, on_test, on_error, on_left, on_right}
 use Rattle.jq_meaning.specs.Runs.{Run, Item, plain, located, as_value, value_in, none, one, then_run, bind, gathered}
 use Rattle.jq_single.specs.private.Scopes.{scope_env}
 use Rattle.jq_operations.specs.Outputs.{Inserts, outputs_of}
@@ -300,6 +300,17 @@ first_piece-returns t c = λ inputs level.
     comes-bind _ c.inserted.result later back (on_back f front filter) (c.in_ok-back.ensures inputs level)
     (comes-bind _ c.inserted.result filter (plain (view c.in_ok-found.found)) (on_inserted f front back) (c.in_ok-found.ensures inputs level)
     (c.inserted.ensures front back expected (subst (λ (bs : List ℕ). Inserts (chars bs) expected back made) c.as_str-front.ensures.value (subst (λ (bs : List ℕ). Inserts (chars c.as_str-front.result.now) expected (chars bs) made) c.as_str.ensures c.in_ok-text_in_format.ensures))))
+
+-- ---- operators
+
+pub binary-returns : goal.binary-returns
+unfolding on_left on_right
+binary-returns t c = λ inputs level.
+    let v = plain (view c.args.value.now) in
+    let go : Tree → Item → Run Item = run c.args.self.now inputs level in
+    let op = operator_of c.args.operator in
+    comes-bind _ c.answer.result (go (named c.args.right.now) v) (plain (view c.in_ok-second.second)) (on_right op (go (named c.args.left.now) v)) (c.in_ok-second.ensures inputs level)
+    (comes-bind _ c.answer.result (go (named c.args.left.now) v) (plain (view c.in_ok-first.first)) (on_left op (view c.in_ok-second.second)) (c.in_ok-first.ensures inputs level) (c.answer.ensures _ c.operated.ensures))
 
 -- ---- objects
 

@@ -27,6 +27,9 @@ decreases-get_two l = 32 * l.self.now.fuel + 1
 abbrev pub decreases-get_made : goal.decreases-get_made
 decreases-get_made l = 32 * l.self.now.fuel + 13
 
+abbrev pub decreases-binary : goal.decreases-binary
+decreases-binary l = 32 * l.self.now.fuel + 4
+
 abbrev pub decreases-get_changed : goal.decreases-get_changed
 decreases-get_changed l = 32 * l.self.now.fuel + 17
 
