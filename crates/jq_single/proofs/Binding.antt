@@ -6,23 +6,21 @@ use mathlib.Core.Bool.{beq}
 use Rattle.jv_data.specs.Value.{Value, boolean, array, items_of, values_of, null}
 use Rattle.jv_data.specs.declared.values.Val.{Val}
 use Rattle.jq_natives.specs.Answers.{is_true}
-use Rattle.jq_meaning.specs.Continuations.{truth, on_conjunct, on_disjunct, on_source, in_bindings, on_state}
+use Rattle.jq_meaning.specs.Continuations.{truth, on_conjunct, on_disjunct, on_error, on_source, in_bindings, on_test, on_state}
 use Rattle.jq_tree.specs.Tree.{Name, Tree}
 use Rattle.jq_meaning.specs.Env.{Env, bound, value_of}
 use Rattle.jq_meaning.specs.Meaning.{Means, below, bindings_with, meaning}
-use Rattle.jq_meaning.specs.Runs.{Item, plain, alternative, Run, one, fail, bind, value_in, Ending, Done, Raised, Broken, Stopped, none, before, then_run, bind_items, gathered, located, path_error, go_on}
+use Rattle.jq_meaning.specs.Runs.{Item, plain, alternative, Run, one, fail, bind, catch, value_in, Ending, Done, Raised, Broken, Stopped, none, before, then_run, bind_items, gathered, located, path_error, go_on}
 use Rattle.jq_meaning.proofs.shared.machine.RunLaws.{bind-one, bind-bind, bind-one_right, bind-then_run, then_run-assoc, then_run-none}
 use Rattle.jq_single.specs.Single.{Ends, Comes, Keeps, Leaves}
 use Rattle.jq_single.specs.private.Gathering.{GoesOn, Gathers, GathersAll, given_of, made, rest_run, fold_run, folded, last_or, state_in, turn}
-use Rattle.jq_single.specs.private.Parts.{decided, run}
+use Rattle.jq_single.specs.private.Parts.{RunsTo, decided, run}
 use Rattle.jq_single.specs.declared.stops.Stop.{Stop}
 use Rattle.std.proofs.lemmas.List.{append-nil, map-append, reverse-append}
 use Rattle.jv_data.proofs.shared.Items.{values_of-items_of}
 use Rattle.jv_data.specs.View.{view}
 use Rattle.jq_meaning.specs.Builtins.{values_in_array}
 use Rattle.jq_state.specs.Items.{item_of}
-use Rattle.jq_state.proofs.shared.Items.{absent, value_of_item}
-use Rattle.jv_data.proofs.shared.Levels.{view-Bool, view-List}
 use Rattle.jq_single.specs.declared.contexts.Context.{Context}
 use Rattle.jq_single.specs.declared.rests.Rest.{Rest}
 use Rattle.jq_meaning.specs.Folds.{next_state, reduced}
@@ -48,9 +46,6 @@ pub comes-bind : {V A B : Type 0} (to : V → Run B) (a : Result V Stop) (r : Ru
 comes-bind to (Ok v) r x g e h = bind-known r x g e ∙ h
 comes-bind to (Err s) r x g e h = subst (Ends s) (sym (bind-known r x g e)) h
 
-pub ends-after : {A B : Type 0} (s : Stop) (r : Run A) (x : A) (g : A → Run B) → r ≡ one x → Ends s (g x) → Ends s (bind r g)
-ends-after s r x g e = subst (Ends s) (sym (bind-known r x g e))
-
 -- a value that is not changed is kept
 pub leaves_same : (s : Stop) (v : Value) → Leaves s v v
 leaves_same stop.Nothing v = tt
@@ -69,9 +64,6 @@ part_stops to a s r g h k = stops to a s (bind r g) h (ends-bind s r g k)
 pub keeps_stops : {A : Type 0} (a : Result A Stop) (s : Stop) (v : Value) → IsErrAnd a (λ e. e ≡ s) → Keeps a v v
 keeps_stops (Ok d) s v h = absurd h
 keeps_stops (Err e) s v h = leaves_same e v
-
--- what each function may use
-pub ruleset known_runs = (part_stops, keeps_stops, bind-one, bind-bind, value_of_item, absent, view-Bool, view-List)
 
 -- ---- conditions
 
@@ -98,12 +90,6 @@ pub truth_of : (l : Run Item) (w : Value) (b : Bool) → l ≡ one (plain w) →
 unfolding truth
 truth_of l w b e t = bind-known l (plain w) truth e ∙ ap (λ c. one (plain (boolean c))) (sym t)
 
--- ---- errors
-
-pub alternative_known : (b : Bool) (r : Run Item) (g : Item → Run Item) (x : Item) (w : Value) → r ≡ one (plain w) → is_true w ≡ b → alternative r g x ≡ (if b then one (plain w) else g x)
-alternative_known true r g x w e t = ap (λ q. alternative q g x) e ∙ rw (t, alternative) refl
-alternative_known false r g x w e t = ap (λ q. alternative q g x) e ∙ rw (t, alternative) refl
-
 -- ---- variables
 
 pub with_variable : (deeper : Means) (r : Run Item) (n : Name) (w : Value) (e : Env) (k : ℕ) (body : Env → ℕ → Item → Run Item) (x : Item) → r ≡ one (plain w)
@@ -121,10 +107,6 @@ gathers-none make d xs r e = λ q. ap (λ p. make xs (then_run p q)) e
 pub gathers-then : {A B : Type 0} (make : List Val → Run Item → Run Item) (d : A) (a : Result B Stop) (xs ys zs : List Val) (r q : Run Item) → Gathers make (Ok d) xs ys r → Gathers make a ys zs q → Gathers make a xs zs (then_run r q)
 gathers-then make d (Ok c) xs ys zs r q f g = λ p. ap (make xs) (then_run-assoc r q p) ∙ f (then_run q p) ∙ g p
 gathers-then make d (Err s) xs ys zs r q f g = λ p. subst (Ends s) (sym (ap (make xs) (then_run-assoc r q p) ∙ f (then_run q p))) (g p)
-
--- a filter that goes on with another one, and then with the rest
-pub gathers_next : {A : Type 0} (make : List Val → Run Item → Run Item) (a : Result A Stop) (xs ys : List Val) (r s : Run Item) (next later : Item → Run Item) → s ≡ bind r next → Gathers make a xs ys (bind r (λ x. bind (next x) later)) → Gathers make a xs ys (bind s later)
-gathers_next make a xs ys r s next later e = subst (Gathers make a xs ys) (sym (ap (λ q. bind q later) e ∙ bind-bind r next later))
 
 -- a run that stopped is still stopped after more runs
 pub stops-then : (make : List Val → Run Item → Run Item) (s : Stop) (xs : List Val) (r q : Run Item) → ((p : Run Item) → Ends s (make xs (then_run r p))) → (p : Run Item) → Ends s (make xs (then_run (then_run r q) p))

@@ -1,3 +1,4 @@
 pub mod Binding
 pub mod Calls
 pub mod UpdateTurns
+pub mod Tried

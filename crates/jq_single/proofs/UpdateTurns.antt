@@ -1,9 +1,9 @@
 -- What is claimed of updates, and of the first output of a run.
-use Rattle.std.proofs.Common.{◌≡◌, ◌∙◌, List, [], ◌∷◌, Result, Ok, Err, refl, ap, ℕ, suc, ◌++◌, length, get_or, map, codes, sym, subst, Bool, true, false}
+use Rattle.std.proofs.Common.{◌≡◌, ◌∙◌, List, [], ◌∷◌, Result, Ok, Err, refl, ap, ℕ, suc, ◌+◌, ◌++◌, length, get_or, map, codes, sym, subst, Bool, true, false}
 use Rattle.jv_data.specs.Value.{Value, array, items_of, compare}
 use Rattle.jq_meaning.specs.Runs.{Item, Ending, Run, then_run, plain, located, value_in, Done, none, one, fail, gathered, answered, bind, paths_in}
 use Rattle.jq_single.specs.Single.{Changed, Ends}
-use Rattle.jq_single.specs.private.FirstOutputs.{first_alone}
+use Rattle.jq_single.specs.private.Updates.{first_alone}
 use Rattle.jq_single.specs.declared.stops.Stop.{Stop}
 use Rattle.jv_arith.specs.Arith.{add_of}
 use Rattle.jv_data.proofs.shared.Levels.{view-List}

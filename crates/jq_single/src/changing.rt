@@ -43,11 +43,10 @@ pub fn apply(
     ensures runs { Changes nodes.now env depth (named tree.now) (view value.old) (view value.new) result }
     ensures keeps { Keeps result (view value.old) (view value.new) }
 {
-    let outside = Outside {
+    let scope = Scope::Run(Outside {
         nodes: &*nodes,
         env,
-    };
-    let scope = Scope::Run(outside);
+    });
     let context = Context {
         alloc,
         scope: &scope,
@@ -130,10 +129,8 @@ impl<'s> Context<'s> {
             return Ok(());
         }
         let second = self.get_part(right, value)?;
-        match self.change(left, value) {
-            Ok(()) => operate_in_place(self.alloc, operator, value, &second),
-            Err(stop) => Err(stop),
-        }
+        self.change(left, value)?;
+        operate_in_place(self.alloc, operator, value, &second)
     }
 
     // `if f then g else h end`.
@@ -243,8 +240,7 @@ impl<'s> Context<'s> {
     {
         match builtin {
             Builtin::NoOutputs => Err(Stop::Nothing),
-            Builtin::Native(Native::SetPath) if self.kept => Err(Stop::Unknown),
-            Builtin::Native(Native::DelPaths) if self.kept => Err(Stop::Unknown),
+            Builtin::Native(Native::SetPath | Native::DelPaths) if self.kept => Err(Stop::Unknown),
             Builtin::Native(native) => self.change_native(native, arguments, value),
             _ => Err(Stop::Unknown),
         }
@@ -279,6 +275,7 @@ impl<'s> Context<'s> {
 }
 
 // The answer of an operator replaces the left value. `+` changes a left value that is not shared in place.
+#[tactic(auto, unfolding(jq_meaning::specs::Continuations::on_left))]
 fn operate_in_place(
     alloc: Global,
     operator: Operator,

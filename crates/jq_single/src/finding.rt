@@ -203,15 +203,9 @@ fn of_the_run<'s>(nodes: &'s Nodes<'s>, callee: Callee<'s>) -> Found<'s>
 {
     match callee {
         Callee::Function(function, env) => {
-            let outside = Outside { nodes, env };
-            let own = Scope::Run(outside);
-            Found::Function(function, own)
+            Found::Function(function, Scope::Run(Outside { nodes, env }))
         }
-        Callee::Closure(body, env) => {
-            let outside = Outside { nodes, env };
-            let own = Scope::Run(outside);
-            Found::Closure(body, own)
-        }
+        Callee::Closure(body, env) => { Found::Closure(body, Scope::Run(Outside { nodes, env })) }
         Callee::NoCallee => Found::Nothing,
     }
 }

@@ -11,7 +11,6 @@ ghost use Rattle.jv_data.specs.View.{view};
 ghost use Rattle.jq_meaning.specs.machine.Operations.{result_of};
 ghost use Rattle.jq_state.specs.Steps.{operation_of};
 ghost use Rattle.jq_meaning.specs.Runs.{Run, before, none, one, value_in, located, plain};
-ghost use Rattle.jq_operations.specs.Outputs.{outputs_of};
 ghost use Rattle.jq_single.specs.Single.{Ends};
 ghost use Rattle.jq_ast.specs.Leaves.{key_of};
 ghost use Rattle.jq_tree.specs.Tree as form;
@@ -364,29 +363,13 @@ impl<'s> Context<'s> {
             fuel: self.fuel - 1,
             ..*self
         };
-        let outputs = run(self.alloc, operation, item)?;
-        inside.give_outputs(outputs, later, into)
-    }
-
-    // Runs the rest of the filter on the outputs of a step.
-    #[cycle(single)]
-    fn give_outputs(
-        &self,
-        outputs: Outputs,
-        rest: &Rest<'s>,
-        into: &mut Vec<Val>,
-    ) -> Result<(), Stop>
-        ensures { GathersRun (outputs_of outputs) rest.now result into.old.items into.new.items }
-    {
-        match outputs {
+        match run(self.alloc, operation, item)? {
             Outputs::Nothing => Ok(()),
-            Outputs::One(item) => self.give(item, rest, into),
-            Outputs::Several(items) => self.give_all(Supply::Items(items), rest, into),
-            // A step never makes numbers of a range.
-            Outputs::Numbers(_, _, _) => Err(Stop::Unknown),
+            Outputs::One(item) => inside.give(item, later, into),
+            Outputs::Several(items) => inside.give_all(Supply::Items(items), later, into),
             Outputs::Error(error) => Err(Stop::Raised(error)),
-            // Nor does it halt.
-            Outputs::Stopped(_) => Err(Stop::Unknown),
+            // A step neither makes numbers of a range nor halts.
+            Outputs::Numbers(_, _, _) | Outputs::Stopped(_) => Err(Stop::Unknown),
         }
     }
 
@@ -462,8 +445,11 @@ impl<'s> Context<'s> {
         ensures { GathersBuiltin self.now meaning.range (trees_of (map named arguments.now)) (plain (view value.now)) rest.now result into.old.items into.new.items }
     {
         match arguments {
-            [start, end] => match self.get_two(start, end, value) {
-                Ok((first, last)) => self.give_range(&first, &last, rest, into),
+            [start, end] => match self.get(start, value) {
+                Ok(first) => match self.get(end, value) {
+                    Ok(last) => self.give_range(&first, &last, rest, into),
+                    Err(stop) => ended(stop),
+                },
                 Err(stop) => ended(stop),
             },
             _ => Err(Stop::Unknown),

@@ -2,7 +2,7 @@
 ghost use Rattle.std.specs.Prelude.{ℕ, List, []};
 ghost use Rattle.jv_data.specs.View.{view};
 ghost use Rattle.jq_ast.specs.Named.{named, name_of, named_entry};
-ghost use Rattle.jq_single.specs.private.Parts.{RunsTo, Answers, Follows, GetsTwo, decided};
+ghost use Rattle.jq_single.specs.private.Parts.{RunsTo, Answers, Follows, decided};
 ghost use Rattle.jq_meaning.specs.Continuations.{on_target, format_of, put_between, text_item};
 ghost use Rattle.jq_meaning.specs.Runs.{plain, bind};
 ghost use Rattle.jv_data.specs.Shared.{text_in};
@@ -66,21 +66,6 @@ impl<'s> Context<'s> {
         }
     }
 
-    /// The outputs of two filters, where the second is run after the first.
-    #[cycle(single)]
-    pub(crate) fn get_two(
-        &self,
-        first: &'s Tree,
-        second: &'s Tree,
-        value: &Val,
-    ) -> Result<(Val, Val), Stop>
-        ensures { GetsTwo self.now (named first.now) (named second.now) (view value.now) result }
-    {
-        let one = self.get(first, value)?;
-        let other = self.get(second, value)?;
-        Ok((one, other))
-    }
-
     /// The output of a filter that makes a value from those of its parts.
     #[cycle(single)]
     #[inline(never)]
@@ -97,11 +82,17 @@ impl<'s> Context<'s> {
             Tree::Field(target, key, guarded) => self.field(target, key.value(), *guarded, value),
             Tree::Index(target, key, guarded) => self.index(target, key, *guarded, value),
             Tree::Slice(target, from, to, guarded) => self.slice(target, from, to, *guarded, value),
-            Tree::Pipe(first, second) => self.pipe(first, second, value),
+            Tree::Pipe(first, second) => {
+                let between = self.get(first, value)?;
+                self.get(second, &between)
+            }
             Tree::And(left, right) => self.decided(false, left, right, value),
             Tree::Or(left, right) => self.decided(true, left, right, value),
             Tree::Alternative(left, right) => self.alternative(left, right, value),
-            Tree::Negation(operand) => self.negation(operand, value),
+            Tree::Negation(operand) => {
+                let found = self.get(operand, value)?;
+                answer(neg(self.alloc, &found))
+            }
             Tree::Array(filter) => self.array(filter, value),
             Tree::Object(entries) => self.object(entries.as_slice(), value),
             Tree::TryCatch(body, handler) => self.try_catch(body, handler, value),
@@ -163,29 +154,10 @@ impl<'s> Context<'s> {
     ) -> Result<Val, Stop>
         ensures { RunsTo self.now (form.slice (named target.now) (named from.now) (named to.now) guarded) (view value.now) result }
     {
-        let (start, end) = self.get_two(from, to, value)?;
+        let start = self.get(from, value)?;
+        let end = self.get(to, value)?;
         let bounds = slice_key(self.alloc, start, end)?;
         self.field(target, &bounds, guarded, value)
-    }
-
-    // `f | g`.
-    #[cycle(single)]
-    #[inline(never)]
-    fn pipe(&self, first: &'s Tree, second: &'s Tree, value: &Val) -> Result<Val, Stop>
-        ensures { RunsTo self.now (form.pipe (named first.now) (named second.now)) (view value.now) result }
-    {
-        let between = self.get(first, value)?;
-        self.get(second, &between)
-    }
-
-    // `-f`.
-    #[cycle(single)]
-    #[inline(never)]
-    fn negation(&self, operand: &'s Tree, value: &Val) -> Result<Val, Stop>
-        ensures { RunsTo self.now (form.negation (named operand.now)) (view value.now) result }
-    {
-        let found = self.get(operand, value)?;
-        answer(neg(self.alloc, &found))
     }
 
     // `[f]`.
@@ -380,6 +352,7 @@ impl<'s> Context<'s> {
 }
 
 // The part of a value at a key.
+#[tactic(auto, unfolding(jq_meaning::specs::Continuations::on_target))]
 fn part_at(alloc: Global, guarded: bool, target: &Val, key: &Val) -> Result<Val, Stop>
     ensures { Answers result (on_target guarded (view key.now) (plain (view target.now))) }
 {

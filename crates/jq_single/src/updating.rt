@@ -9,8 +9,7 @@ ghost use Rattle.jq_tree.specs.Tree.{trees_of};
 ghost use Rattle.jq_meaning.specs.Builtins.{plain_native};
 ghost use Rattle.jq_single.specs.Single.{Changed, Keeps};
 ghost use Rattle.jq_single.specs.private.Parts.{ChangesTo};
-ghost use Rattle.jq_single.specs.private.Updates.{ChangesParts, FindsPaths, TakesTurn, TakesTurns, listed};
-ghost use Rattle.jq_single.specs.private.FirstOutputs.{ChangesToFirst};
+ghost use Rattle.jq_single.specs.private.Updates.{ChangesParts, ChangesToFirst, FindsPaths, TakesTurn, TakesTurns, listed};
 ghost use Rattle.jq_tree.specs.Tree as form;
 
 use crate::changing::call_on;
@@ -102,13 +101,9 @@ impl<'s> Context<'s> {
             return Err(Stop::Unknown);
         }
         let mut changed = value.copy()?;
-        match self.change_each(paths, update, &mut changed) {
-            Ok(()) => {
-                *value = changed;
-                Ok(())
-            }
-            Err(stop) => Err(stop),
-        }
+        self.change_each(paths, update, &mut changed)?;
+        *value = changed;
+        Ok(())
     }
 
     // One part after the other. The parts at the listed paths are deleted at the end.
@@ -119,10 +114,7 @@ impl<'s> Context<'s> {
     {
         let mut without = Vec::new(self.alloc);
         for path in paths {
-            match self.change_part(path, update, value, &mut without) {
-                Ok(()) => {}
-                Err(stop) => return Err(stop),
-            }
+            self.change_part(path, update, value, &mut without)?;
         }
         delete_listed(self.alloc, value, without)
     }

@@ -1,5 +1,5 @@
 -- What the outputs of a filter add to a list.
-use Rattle.std.specs.Prelude.{◌≡◌, ℕ, pos, List, [], ◌∷◌, ◌++◌, map, reverse, Some, None, Result, Ok, Err}
+use Rattle.std.specs.Prelude.{◌≡◌, ℕ, ℤ, pos, List, [], ◌∷◌, ◌++◌, map, reverse, Option, Some, None, Result, Ok, Err}
 use Rattle.jv_data.specs.Value.{Value, null, array, items_of, string}
 use Rattle.jv_data.specs.Text.{text_of}
 use Rattle.jv_data.specs.View.{view}

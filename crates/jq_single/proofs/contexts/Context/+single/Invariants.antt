@@ -21,9 +21,6 @@ decreases-get l = 32 * l.self.now.fuel
 abbrev pub decreases-get_part : goal.decreases-get_part
 decreases-get_part l = 32 * l.self.now.fuel + 1
 
-abbrev pub decreases-get_two : goal.decreases-get_two
-decreases-get_two l = 32 * l.self.now.fuel + 1
-
 abbrev pub decreases-get_made : goal.decreases-get_made
 decreases-get_made l = 32 * l.self.now.fuel + 13
 
@@ -38,12 +35,6 @@ decreases-index l = 32 * l.self.now.fuel + 3
 
 abbrev pub decreases-slice : goal.decreases-slice
 decreases-slice l = 32 * l.self.now.fuel + 3
-
-abbrev pub decreases-pipe : goal.decreases-pipe
-decreases-pipe l = 32 * l.self.now.fuel + 3
-
-abbrev pub decreases-negation : goal.decreases-negation
-decreases-negation l = 32 * l.self.now.fuel + 3
 
 abbrev pub decreases-array : goal.decreases-array
 decreases-array l = 32 * l.self.now.fuel + 11
@@ -191,9 +182,6 @@ decreases-give l = 32 * l.self.now.fuel + 4
 
 abbrev pub decreases-give_step : goal.decreases-give_step
 decreases-give_step l = 32 * l.self.now.fuel + 3
-
-abbrev pub decreases-give_outputs : goal.decreases-give_outputs
-decreases-give_outputs l = 32 * l.self.now.fuel + 7
 
 abbrev pub decreases-give_all : goal.decreases-give_all
 decreases-give_all l = 32 * l.self.now.fuel + 6
