@@ -13,7 +13,7 @@ use Rattle.jq_meaning.specs.machine.Operations.{refusing}
 use Rattle.jq_meaning.specs.machine.Stack.{cut, set_cell}
 use Rattle.jq_meaning.specs.machine.State.{Scope, with_env, reducing, body, fold_step, Frame, operation, pipe_into, target_key, slice_start, slice_end, right_operand, conjunct, disjunct, test, entry_value, entry_key, own_entry, hole, argument, source, pattern_key, fold_start, fold_update, collect, left_side, try_body, label_body, evaluate, give, go_back, raise, leave, other, Cell, ForkPoint, fork, State, state, moves}
 use Rattle.jq_meaning.proofs.shared.machine.StackLaws.{set-length}
-use Rattle.jq_meaning.specs.updates.Body.{changed, with_part, without_part}
+use Rattle.jq_tree.specs.ModifyBody.{changed, with_part, without_part}
 use Rattle.jq_engine.specs.private.Leading.{Advances, gives, ends, here, by_transition, by_run}
 
 -- ---- stacks that are cut

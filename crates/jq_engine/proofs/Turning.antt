@@ -18,7 +18,7 @@ use Rattle.jq_state.specs.declared.frames.Scope.{Scope}
 use Rattle.jq_state.specs.declared.items.Item as items
 use Rattle.jq_state.specs.declared.states.State.{State}
 use Rattle.jq_state.specs.declared.steps.Step.{Step}
-use Rattle.jq_meaning.specs.updates.Body.{changed, with_part, without_part}
+use Rattle.jq_tree.specs.ModifyBody.{changed, with_part, without_part}
 use Rattle.jq_engine.specs.declared.putting.UpdateEnd.{UpdateEnd}
 use Rattle.jq_transitions.specs.declared.backtracking.outcomes.Progress.{Progress}
 use Rattle.jq_transitions.specs.declared.backtracking.outcomes.Progress.TheVariants as progress

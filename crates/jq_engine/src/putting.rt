@@ -12,7 +12,7 @@ ghost use Rattle.jq_state.specs.Steps.{step_in};
 ghost use Rattle.jq_state.specs.Views.{frames_in, IsFirst};
 ghost use Rattle.jq_shapes.specs.Names.{HasPut};
 ghost use Rattle.jq_tree.specs.Tree as form;
-ghost use Rattle.jq_meaning.specs.updates.Body.{changed};
+ghost use Rattle.jq_tree.specs.ModifyBody.{changed};
 ghost use Rattle.jq_engine.specs.private.Leading.{Leads, at_filter, at_step, at_item};
 ghost use Rattle.jq_engine.specs.private.UpdateEnds.{EndsTurn, IsAround, IsInTurn, KeepsPart, WaitsForPart};
 

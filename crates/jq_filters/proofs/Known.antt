@@ -17,7 +17,7 @@ use Rattle.jq_syntax.specs.laws.Computed.{prelude}
 use Rattle.jq_tree.specs.Prelude.{followed_by}
 use Rattle.jq_tree.specs.Tree.{Name, Tree}
 use Rattle.jq_tree.specs.Tree as tree
-use Rattle.jq_meaning.specs.updates.Body.{modify_body, modify_parameters}
+use Rattle.jq_tree.specs.ModifyBody.{modify_body, modify_parameters}
 use Rattle.jq_meaning.specs.updates.Known.{HasModifyOf}
 use Rattle.jq_filters.proofs.Around.{added, variables_around}
 use Rattle.jq_filters.specs.Programs.{bindings_of, function_binding, value_binding}

@@ -1,3 +1,2 @@
 -- What `f |= g` does: the prelude's `_modify`.
-pub mod Body
 pub mod Known

@@ -5,7 +5,7 @@ ghost use Rattle.jq_meaning.specs.Runs.{Run};
 ghost use Rattle.jq_state.specs.Environments.{count_of, envs_of};
 ghost use Rattle.jq_state.specs.Nodes.{env_at};
 ghost use Rattle.jq_shapes.specs.Names.{HasKeep, HasPut};
-ghost use Rattle.jq_meaning.specs.updates.Body.{changed, without_part};
+ghost use Rattle.jq_tree.specs.ModifyBody.{changed, without_part};
 ghost use Rattle.jq_operations.specs.Settings.{Holds, Sets};
 
 use crate::{Callee, find_callee, find_value};

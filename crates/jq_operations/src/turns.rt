@@ -5,7 +5,7 @@ ghost use Rattle.jv_data.specs.View.{view};
 ghost use Rattle.jq_meaning.specs.Env.{Env, bound, value_of};
 ghost use Rattle.jq_meaning.specs.Meaning.{meaning};
 ghost use Rattle.jq_meaning.specs.Runs.{plain};
-ghost use Rattle.jq_meaning.specs.updates.Body.{with_part, without_part};
+ghost use Rattle.jq_tree.specs.ModifyBody.{with_part, without_part};
 ghost use Rattle.jq_operations.specs.Answers.{Answers};
 ghost use Rattle.jq_operations.specs.Settings.{Holds, Sets};
 

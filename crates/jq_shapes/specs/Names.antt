@@ -2,7 +2,7 @@
 use Rattle.std.specs.Prelude.{◌≡◌, codes}
 use Rattle.jq_ast.specs.Named.{name_of}
 use Rattle.jq_tree.specs.Tree.{Tree}
-use Rattle.jq_meaning.specs.updates.Body.{changed, without_part}
+use Rattle.jq_tree.specs.ModifyBody.{changed, without_part}
 use Rattle.jq_shapes.specs.declared.ends.Keep.{Keep}
 use Rattle.jq_shapes.specs.declared.ends.Put.{Put}
 

@@ -3,7 +3,7 @@ ghost use Rattle.std.specs.Prelude.{◌≡◌, IfSome, codes};
 ghost use Rattle.jq_ast.specs.Named.{named};
 ghost use Rattle.jq_tree.specs.Tree as form;
 ghost use Rattle.jq_shapes.specs.Names.{HasKeep, HasPut};
-ghost use Rattle.jq_meaning.specs.updates.Body as shape;
+ghost use Rattle.jq_tree.specs.ModifyBody as shape;
 ghost use Rattle.jq_shapes.specs.private.Shapes.{HasLonger, HasName, HasSet, HasWithPart};
 
 use crate::leaves::{in_variable, is_named};

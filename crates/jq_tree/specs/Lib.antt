@@ -9,5 +9,6 @@ pub mod BoundTree
 pub mod Binders
 pub mod Inputs
 pub mod Prelude
+pub mod ModifyBody
 pub mod Filter
 pub mod laws

@@ -1,4 +1,4 @@
--- What only contracts of private functions cite.
+-- What only contracts of private functions cite, and the proof that the order of values is total.
 pub mod Pairs
 pub mod Names
 pub mod Slots

@@ -1,4 +1,5 @@
-//! JSON values in the code: shared containers, copying, comparing, kinds, and the errors that are texts.
+//! What a JSON value is (`specs/Value.antt`), and values in the code: shared containers, copying, comparing, kinds, and the errors that are
+//! texts.
 //!
 //! A value is `null`, a boolean, a whole number of 64 bits, a string, an array or an object. Strings, arrays and
 //! objects are shared by reference count: a copy takes no memory, and a change of a shared value copies one level.

@@ -16,7 +16,7 @@ use Rattle.jq_state.specs.declared.states.State.{State}
 use Rattle.jq_state.specs.declared.steps.Step.{Step}
 use Rattle.jq_shapes.specs.Names.{HasPut}
 use Rattle.jq_operations.specs.Settings.{Holds, Sets}
-use Rattle.jq_meaning.specs.updates.Body.{changed, without_part}
+use Rattle.jq_tree.specs.ModifyBody.{changed, without_part}
 use Rattle.jq_shapes.specs.declared.ends.Put.{Put}
 use Rattle.jq_engine.specs.declared.putting.Around.{Around}
 use Rattle.jq_engine.specs.declared.putting.UpdateEnd.{UpdateEnd}

@@ -13,7 +13,7 @@ use Rattle.jq_meaning.specs.Continuations.{on_right, on_left}
 use Rattle.jq_meaning.specs.Folds.{next_state}
 use Rattle.jq_meaning.specs.Meaning.{Means, meaning_with, arguments_with, called}
 use Rattle.jq_meaning.proofs.shared.machine.RunLaws.{then_run-none}
-use Rattle.jq_meaning.specs.updates.Body.{old_part, update_call, set_part, set_on, new_part, changed, put_part, longer, without_part, choosing, turn}
+use Rattle.jq_tree.specs.ModifyBody.{old_part, update_call, set_part, set_on, new_part, changed, put_part, longer, without_part, choosing, turn}
 use Rattle.jq_meaning.specs.laws.Updating.{with_answer}
 use Rattle.jq_meaning.specs.laws.Updating.{without_output, on_outputs, turn_of}
 use Rattle.jq_meaning.proofs.updating.Forms.{state, Reads, pipe-one, as-ended, as-first, pair-bound, called-none, labelled-broken, pair-one, pair-fails, pair-fails_after}

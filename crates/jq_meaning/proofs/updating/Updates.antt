@@ -10,7 +10,7 @@ use Rattle.jq_meaning.specs.Folds.{next_state, reduced, last_or}
 use Rattle.jq_meaning.specs.Meaning.{Means, meaning_with, below, arguments_with, bindings_with}
 use Rattle.jq_meaning.specs.Runs.{Item, plain, located, value_in, Ending, Run, none, one, go_on, bind_items, bind, answered, paths_in, path_error}
 use Rattle.jq_meaning.proofs.shared.machine.RunLaws.{bind-one, then_run-none}
-use Rattle.jq_meaning.specs.updates.Body.{source, turn, remove_paths, removal, finish, modify_body, modify_parameters}
+use Rattle.jq_tree.specs.ModifyBody.{source, turn, remove_paths, removal, finish, modify_body, modify_parameters}
 use Rattle.jq_meaning.specs.laws.Updating.{turns, updated, update_run}
 use Rattle.jq_meaning.specs.laws.Updates.{UpdatesAreTurns}
 use Rattle.jq_meaning.proofs.updating.Forms.{state, Reads, pipe-one, pair-bound, called-none, called-function, go_on-bind}

@@ -1,7 +1,7 @@
 -- That `_modify` is the prelude's.
 use Rattle.std.specs.Prelude.{◌≡◌, codes}
 use Rattle.jq_meaning.specs.Env.{Env, found_function, no_callee, find_callee, find_in_prelude}
-use Rattle.jq_meaning.specs.updates.Body.{modify_body, modify_parameters}
+use Rattle.jq_tree.specs.ModifyBody.{modify_body, modify_parameters}
 
 -- In these bindings `_modify` is the prelude's definition, and where its body runs nothing defines `path`, `getpath`, `setpath` or
 -- `delpaths` anew.

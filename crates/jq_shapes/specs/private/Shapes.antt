@@ -3,7 +3,7 @@ use Rattle.std.specs.Prelude.{◌≡◌, ℕ, List, codes}
 use Rattle.jq_ast.specs.Named.{name_of}
 use Rattle.jq_ast.specs.declared.names.Name.{Name}
 use Rattle.jq_tree.specs.Tree.{Tree}
-use Rattle.jq_meaning.specs.updates.Body.{longer, set_part}
+use Rattle.jq_tree.specs.ModifyBody.{longer, set_part}
 use Rattle.jq_shapes.specs.declared.ends.Longer.{Longer}
 use Rattle.jq_shapes.specs.declared.ends.Setter.{Setter}
 use Rattle.jq_shapes.specs.declared.ends.WithPart.{WithPart}

@@ -4,7 +4,7 @@ use Rattle.jq_tree.specs.Tree.{whole}
 use Rattle.jq_meaning.specs.machine.State.{source, body}
 use Rattle.jq_state.specs.Items.{item_of}
 use Rattle.jq_state.proofs.shared.Items.{absent}
-use Rattle.jq_meaning.specs.updates.Body.{changed}
+use Rattle.jq_tree.specs.ModifyBody.{changed}
 use Rattle.jq_engine.proofs.Leading.{if_some}
 use Rattle.jq_engine.proofs.putting.waiting_put.Goals as goal
 
