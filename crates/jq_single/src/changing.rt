@@ -130,9 +130,22 @@ impl<'s> Context<'s> {
             return Ok(());
         }
         let second = self.get_part(right, value)?;
-        match self.change(left, value) {
+        match self.change_operand(left, value) {
             Ok(()) => operate_in_place(self.alloc, operator, value, &second),
             Err(stop) => Err(stop),
+        }
+    }
+
+    // An operand that is often the input.
+    #[cycle(single)]
+    #[inline(always)]
+    fn change_operand(&self, tree: &'s Tree, value: &mut Val) -> Result<(), Stop>
+        ensures runs { ChangesTo self.now (named tree.now) (view value.old) (view value.new) result }
+        ensures keeps { Keeps result (view value.old) (view value.new) }
+    {
+        match tree {
+            Tree::Identity => Ok(()),
+            _ => self.change(tree, value),
         }
     }
 
@@ -300,6 +313,7 @@ fn operate_in_place(
 }
 
 /// The scope of a body, in which the parameters are bound to the arguments of a call. Without parameters it is the body's own.
+#[inline(always)]
 pub(crate) fn scope_of_call<'s>(
     own: &'s Scope<'s>,
     parameters: &'s [String],

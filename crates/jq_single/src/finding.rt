@@ -48,6 +48,7 @@ pub(crate) enum Called<'s> {
 
 impl<'s> Context<'s> {
     /// What a call runs.
+    #[inline(always)]
     pub(crate) fn called(&self, tree: &'s Tree) -> Called<'s>
         ensures { Calls self.now (named tree.now) result }
     {
@@ -61,6 +62,7 @@ impl<'s> Context<'s> {
     }
 
     // What `a(f; g)` runs.
+    #[inline(always)]
     fn called_by_name(&self, name: &Name, arguments: &'s [Tree]) -> Called<'s>
         ensures { Calls self.now (form.call (name_of name.now) (trees_of (map named arguments.now))) result }
     {
@@ -80,6 +82,7 @@ impl<'s> Context<'s> {
     }
 
     // What a call of the prelude's own function runs.
+    #[inline(always)]
     fn called_in_prelude(&self, name: &Name, arguments: &'s [Tree]) -> Called<'s>
         ensures { Calls self.now (form.prelude_call (name_of name.now) (trees_of (map named arguments.now))) result }
     {
@@ -97,8 +100,25 @@ impl<'s> Context<'s> {
     }
 
     /// The result of an operator, if it compares `type` with a constant.
-    #[inline(never)]
+    #[inline(always)]
     pub(crate) fn compared(
+        &self,
+        operator: Operator,
+        left: &Tree,
+        right: &Tree,
+        value: &Val,
+    ) -> Option<bool>
+        ensures { IfSome result (λ b. RunsTo self.now (form.binary (operator_of operator) (named left.now) (named right.now)) (view value.now) (Ok (val.Bool b))) }
+    {
+        match left {
+            Tree::Call(_, _) => self.call_compared(operator, left, right, value),
+            _ => None,
+        }
+    }
+
+    // The same of an operator whose left side is a call.
+    #[inline(never)]
+    fn call_compared(
         &self,
         operator: Operator,
         left: &Tree,

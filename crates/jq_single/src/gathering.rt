@@ -318,6 +318,20 @@ impl<'s> Context<'s> {
                 };
                 inside.gather(*tree, &item, *later, into)
             }
+            Rest::Fold(name, update, context) => {
+                self.turn(*name, *update, *context, &item.value, into)
+            }
+            _ => self.give_on(item, rest, into),
+        }
+    }
+
+    // The same where the rest binds the output or takes a step.
+    #[cycle(single)]
+    #[inline(never)]
+    fn give_on(&self, item: Item, rest: &Rest<'s>, into: &mut Vec<Val>) -> Result<(), Stop>
+        ensures { GathersRun (one (item_of item)) rest.now result into.old.items into.new.items }
+    {
+        match rest {
             Rest::Bind(name, body, context, input, later) => {
                 let scope = Scope::Value(&*context.scope, &**name, &item.value);
                 let inside = Context {
@@ -339,9 +353,7 @@ impl<'s> Context<'s> {
                 self.give_step(Operation::EveryPart(*guarded), item, *later, into)
             }
             Rest::Path(later) => self.give_step(Operation::PathValue, item, *later, into),
-            Rest::Fold(name, update, context) => {
-                self.turn(*name, *update, *context, &item.value, into)
-            }
+            _ => Err(Stop::Unknown),
         }
     }
 

@@ -53,7 +53,7 @@ impl<'s> Context<'s> {
         }
     }
 
-    /// The same for a part that is often the input or a constant.
+    /// The same for a part that is often the input, a constant or a variable.
     #[cycle(single)]
     #[inline(always)]
     pub(crate) fn get_part(&self, tree: &'s Tree, value: &Val) -> Result<Val, Stop>
@@ -62,6 +62,7 @@ impl<'s> Context<'s> {
         match tree {
             Tree::Identity => Ok(value.copy()?),
             Tree::Literal(constant) => Ok(literal(constant)?),
+            Tree::Variable(name) => Ok(value_of(self.scope, name)?),
             _ => self.get(tree, value),
         }
     }

@@ -102,6 +102,9 @@ decreases-change_form l = 32 * l.self.now.fuel + 16
 abbrev pub decreases-change_binary : goal.decreases-change_binary
 decreases-change_binary l = 32 * l.self.now.fuel + 4
 
+abbrev pub decreases-change_operand : goal.decreases-change_operand
+decreases-change_operand l = 32 * l.self.now.fuel + 1
+
 abbrev pub decreases-change_choice : goal.decreases-change_choice
 decreases-change_choice l = 32 * l.self.now.fuel + 3
 
@@ -190,7 +193,10 @@ abbrev pub decreases-gather_paths : goal.decreases-gather_paths
 decreases-gather_paths l = 32 * l.self.now.fuel + 5
 
 abbrev pub decreases-give : goal.decreases-give
-decreases-give l = 32 * l.self.now.fuel + 4
+decreases-give l = 32 * l.self.now.fuel + 5
+
+abbrev pub decreases-give_on : goal.decreases-give_on
+decreases-give_on l = 32 * l.self.now.fuel + 4
 
 abbrev pub decreases-give_step : goal.decreases-give_step
 decreases-give_step l = 32 * l.self.now.fuel + 3

@@ -3,7 +3,7 @@ use Rattle.jv_data.specs.View.{view}
 use Rattle.jq_ast.specs.Leaves.{literal_of, operator_of}
 use Rattle.jq_ast.specs.Named.{name_of, named}
 use Rattle.jq_single.proofs.Calls.{named-Literal, kind_told}
-use Rattle.jq_single.proofs.contexts.Context.compared.Goals as goal
+use Rattle.jq_single.proofs.contexts.Context.call_compared.Goals as goal
 
 pub returns-then-is_type : goal.returns-then-is_type
 returns-then-is_type c =
