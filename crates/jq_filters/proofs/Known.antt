@@ -21,7 +21,7 @@ use Rattle.jq_tree.specs.ModifyBody.{modify_body, modify_parameters}
 use Rattle.jq_meaning.specs.updates.Known.{HasModifyOf}
 use Rattle.jq_filters.proofs.Around.{added, variables_around}
 use Rattle.jq_filters.specs.Programs.{bindings_of, function_binding, value_binding}
-use Rattle.jq_filters.specs.laws.Updates.{ModifyIsKnown}
+use Rattle.jq_filters.specs.laws.Updates.{ModifyIsKnown, up_to_modify}
 
 -- ---- the functions of a program
 
@@ -77,9 +77,9 @@ no-native n count (v ∷ vs) inputs = no-native n count vs inputs
 -- ---- the prelude up to `_modify`
 
 abbrev own : Env → Env
-own e = with_bindings (take 36 (functions_before prelude)) e
+own e = with_bindings (take up_to_modify (functions_before prelude)) e
 
-modify-found : (e : Env) → after (codes "_modify") 2 no_callee (take 36 (functions_before prelude)) e ≡ found_function modify_parameters modify_body (own e)
+modify-found : (e : Env) → after (codes "_modify") 2 no_callee (take up_to_modify (functions_before prelude)) e ≡ found_function modify_parameters modify_body (own e)
 unfolding computing_prelude
 modify-found e = refl
 
@@ -103,8 +103,8 @@ has-modify : (vs : List (Name × Value)) (inputs : Run Value) → HasModifyOf (o
 has-modify vs inputs =
     let e = with_variables vs (outermost inputs) in
     record {
-      found = found-after (codes "_modify") 2 (take 36 (functions_before prelude)) e
-          ∙ ap (λ c. after (codes "_modify") 2 c (take 36 (functions_before prelude)) e) (no-function (codes "_modify") 2 vs inputs)
+      found = found-after (codes "_modify") 2 (take up_to_modify (functions_before prelude)) e
+          ∙ ap (λ c. after (codes "_modify") 2 c (take up_to_modify (functions_before prelude)) e) (no-function (codes "_modify") 2 vs inputs)
           ∙ modify-found e;
       paths = paths e ∙ no-native (codes "path") 1 vs inputs;
       gets = gets e ∙ no-native (codes "getpath") 1 vs inputs;
@@ -120,19 +120,19 @@ take-after (x ∷ xs) ys k =
     let s : suc (length xs) + k ≡ suc (length xs + k) = omega arith in ap (λ n. take n (x ∷ xs ++ ys)) s ∙ ap (λ zs. x ∷ zs) (take-after xs ys k)
 
 around-functions : (vs : List (Name × Value)) (fs : List (Function ast.Tree)) (inputs : Run Value) → map function_binding fs ≡ functions_before prelude
-    → program_env (bindings_of vs fs) (length vs + 36) inputs ≡ own (with_variables vs (outermost inputs))
+    → program_env (bindings_of vs fs) (length vs + up_to_modify) inputs ≡ own (with_variables vs (outermost inputs))
 around-functions vs fs inputs h =
     let variables = reverse (map value_binding vs) in
     let count : length variables ≡ length vs = length-reverse (map value_binding vs) ∙ length-map vs value_binding in
-    let bs : take (length vs + 36) (variables ++ map function_binding fs) ≡ variables ++ take 36 (functions_before prelude) =
-    ap (λ n. take (n + 36) (variables ++ map function_binding fs)) (sym count) ∙ take-after variables (map function_binding fs) 36 ∙ ap (λ gs. variables ++ take 36 gs) h in
-    ap (λ l. with_bindings l (outermost inputs)) bs ∙ added variables (take 36 (functions_before prelude)) (outermost inputs)
-    ∙ ap (with_bindings (take 36 (functions_before prelude))) (variables_around vs (outermost inputs))
+    let bs : take (length vs + up_to_modify) (variables ++ map function_binding fs) ≡ variables ++ take up_to_modify (functions_before prelude) =
+    ap (λ n. take (n + up_to_modify) (variables ++ map function_binding fs)) (sym count) ∙ take-after variables (map function_binding fs) up_to_modify ∙ ap (λ gs. variables ++ take up_to_modify gs) h in
+    ap (λ l. with_bindings l (outermost inputs)) bs ∙ added variables (take up_to_modify (functions_before prelude)) (outermost inputs)
+    ∙ ap (with_bindings (take up_to_modify (functions_before prelude))) (variables_around vs (outermost inputs))
 
 pub modify_is_known : ModifyIsKnown
 modify_is_known vs fs h = λ inputs. subst (λ e. HasModifyOf e e) (sym (around-functions vs fs inputs h)) (has-modify vs inputs)
 
-pub known_if_found : (vs : List (Name × Value)) (fs : List (Function ast.Tree)) (n : ℕ) (r : Option ℕ) → map function_binding fs ≡ functions_before prelude → n ≡ length vs → IfSome r (λ count. count ≡ n + 36)
+pub known_if_found : (vs : List (Name × Value)) (fs : List (Function ast.Tree)) (n : ℕ) (r : Option ℕ) → map function_binding fs ≡ functions_before prelude → n ≡ length vs → IfSome r (λ count. count ≡ n + up_to_modify)
     → KnowsModify (bindings_of vs fs) r
 known_if_found vs fs n None h e i = tt
-known_if_found vs fs n (Some count) h e i = subst (λ k. KnowsModify (bindings_of vs fs) (Some k)) (sym (i ∙ ap (λ k. k + 36) e)) (modify_is_known vs fs h)
+known_if_found vs fs n (Some count) h e i = subst (λ k. KnowsModify (bindings_of vs fs) (Some k)) (sym (i ∙ ap (λ k. k + up_to_modify) e)) (modify_is_known vs fs h)

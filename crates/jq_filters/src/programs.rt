@@ -4,6 +4,7 @@ ghost use Rattle.jq_syntax.specs.Chosen.{variables_of};
 ghost use Rattle.jq_state.specs.Listed.{items_in};
 ghost use Rattle.jq_state.specs.Nodes.{program_binding};
 ghost use Rattle.jq_filters.specs.Programs.{bindings_of, function_binding, value_binding};
+ghost use Rattle.jq_filters.specs.laws.Updates as laws;
 ghost use Rattle.jq_filters.specs.private.Preludes.{IsPreludeBefore};
 
 use crate::laws::{functions_are_the_preludes, the_prelude_has_modify};
@@ -38,7 +39,7 @@ pub(crate) fn bindings_of(
 
 // The number of bindings up to `_modify`, after so many variables, unless it is too large.
 fn up_to_modify(variables: usize) -> Option<u32>
-    ensures { IfSome result (λ count. count ≡ variables + 36) }
+    ensures { IfSome result (λ count. count ≡ variables + laws.up_to_modify) }
 {
     let count = variables.checked_add(UP_TO_MODIFY)?;
     match u32::try_from(count) {

@@ -1,5 +1,5 @@
 -- The prelude's `_modify`, which `f |= g` calls, in the bindings of a program.
-use Rattle.std.specs.Prelude.{◌≡◌, ◌+◌, List, Some, length, map}
+use Rattle.std.specs.Prelude.{◌≡◌, ◌+◌, ℕ, List, Some, length, map}
 use Rattle.jv_data.specs.Value.{Value}
 use Rattle.jq_tree.specs.Prelude.{IsPrelude, followed_by}
 use Rattle.jq_tree.specs.Tree as tree
@@ -17,7 +17,11 @@ abbrev pub FunctionsAreThePreludes : Type 0
 FunctionsAreThePreludes = (fs : List (Function Tree)) (t : Tree) (p : tree.Tree) → IsPrelude p → named_program fs t ≡ followed_by p (named t)
     → map function_binding fs ≡ functions_before prelude
 
--- The last of the variables and 36 functions is `_modify`.
+-- The number of the prelude's functions up to `_modify`.
+abbrev pub up_to_modify : ℕ
+up_to_modify = 36
+
+-- The last of the variables and so many functions is `_modify`.
 abbrev pub ModifyIsKnown : Type 0
 ModifyIsKnown = (vs : List (tree.Name × Value)) (fs : List (Function Tree)) → map function_binding fs ≡ functions_before prelude
-    → KnowsModify (bindings_of vs fs) (Some (length vs + 36))
+    → KnowsModify (bindings_of vs fs) (Some (length vs + up_to_modify))
