@@ -41,7 +41,7 @@ range_begins inputs s t p x n m r =
     let k = frames_in inputs s in
     let fs = forks_in inputs s in
     subst (λ (y : Item). Arrives (at_filter inputs s t p y) (deliver (numbers_up_to n m (pos 1)) k fs)) (sym r.is_plain)
-    (bounds_run (scope_in (envs_in inputs s) p) t r.start r.last r.value n m k fs (r.runs inputs r.value k fs) (λ l. r.from inputs l fs) (λ l. r.before inputs l fs))
+    (bounds_run (scope_in (envs_in inputs s) p) t r.start r.last r.value n m k fs (r.runs inputs r.value k fs) (λ l. r.from inputs l fs) (λ l. r.to inputs l fs))
 
 -- the first transition of another filter
 pub enters_at : {E : Type 0} (inputs : Run Value) (before goal : machine.State) (s : State) (r : Result Next E) → step before ≡ moves goal → IfOk r (ComesWith inputs goal s) → IfOk r (ArrivesAt inputs before s)

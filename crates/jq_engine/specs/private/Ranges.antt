@@ -26,4 +26,4 @@ pub record RangesOver (ns : Nodes) (t : Tree) (p : Scope) (x : Item) (n m : ℤ)
   pub is_plain : x ≡ plain value
   pub runs : RunsRange ns t p start last
   pub from : GivesOne ns start p value (number n)
-  pub before : GivesOne ns last p value (number m)
+  pub to : GivesOne ns last p value (number m)

@@ -22,5 +22,5 @@ returns-in-Some-3 c =
       is_plain = absent x (sym c.is_present.ensures ∙ c.if-is_present.false);
       runs = c.in-Some.ensures;
       from = subst (λ (n : ℤ). GivesOne ns start c.args.scope (view x.value) (number n)) (sym (to_z-of_z w64 c.in-Some-2.first first_fits)) (rw c.in-Some-2.is at c.in_ok-first.ensures);
-      before = subst (λ (n : ℤ). GivesOne ns last c.args.scope (view x.value) (number n)) (sym (to_z-of_z w64 c.in-Some-3.last last_fits)) (rw c.in-Some-3.is at c.in_ok-last.ensures);
+      to = subst (λ (n : ℤ). GivesOne ns last c.args.scope (view x.value) (number n)) (sym (to_z-of_z w64 c.in-Some-3.last last_fits)) (rw c.in-Some-3.is at c.in_ok-last.ensures);
     }
