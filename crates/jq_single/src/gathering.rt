@@ -264,7 +264,7 @@ impl<'s> Context<'s> {
         }
     }
 
-    // A name of the language, whose answer replaces a copy of the input. On an item with a path it is not run at once.
+    // A name of the language, whose answer replaces a copy of the input. On an item with a path `empty` alone is run at once.
     #[cycle(single)]
     #[inline(never)]
     fn gather_builtin(
@@ -277,6 +277,9 @@ impl<'s> Context<'s> {
     ) -> Result<(), Stop>
         ensures { GathersBuiltin self.now (meaning_of builtin) (trees_of (map named arguments.now)) (item_of item.now) rest.now result into.old.items into.new.items }
     {
+        if let Builtin::NoOutputs = builtin {
+            return Ok(());
+        }
         if item.path.is_present() {
             return Err(Stop::Unknown);
         }

@@ -10,6 +10,7 @@ use Rattle.jv_data.specs.declared.values.Val.{Val}
 use Rattle.jq_ast.specs.Leaves.{key_of, operator_of}
 use Rattle.jq_ast.specs.Named.{name_of, named, named_as_pattern}
 use Rattle.jq_ast.proofs.shared.Forms.{named-Field, named-Iterate, named-Pipe, named-Update, named-Object, named-Text, named-Whole}
+use Rattle.jq_operations.specs.declared.named_builtins.Builtin.{Builtin}
 use Rattle.jq_tree.specs.Tree as form
 use Rattle.jq_tree.specs.Tree.{Entry, Tree, bind_as, more_entries, object, reduce, text, trees_of, whole}
 use Rattle.jq_operations.specs.Language.{meaning_of}
@@ -219,8 +220,13 @@ gather_call-returns-else-self-eq0 t c = λ inputs level.
     ∙ ap (λ own. below p.depth body own level x) (c.scope_of_call-scope.ensures inputs) ∙ sym (c.in-Body.ensures inputs level x))
     (c.gather.ensures inputs level)
 
+pub gather_builtin-returns-in-NoOutputs : goal.gather_builtin-returns-in-NoOutputs
+gather_builtin-returns-in-NoOutputs t c = λ inputs level.
+    let goes : Builtin → Run Item = λ b. bind (builtin_in c.args.self.now inputs level (meaning_of b) (trees_of (map named c.args.arguments.now)) (item_of c.args.item.now)) (rest_run inputs level c.args.rest.now) in
+    gathers-none (made inputs level c.args.rest.now) (tt {0}) c.args.into.now.items (goes c.args.builtin) (ap goes c.in-NoOutputs.is)
+
 pub gather_builtin-returns-in-Err : goal.gather_builtin-returns-in-Err
-gather_builtin-returns-in-Err t c = λ inputs level. c.ended.ensures inputs level c.args.rest.now _ c.args.into.now.items (ends-bind _ _ _ (rw (c.in_ok-found-in_default.ensures, ← absent c.args.item.now (sym c.is_present.ensures ∙ c.if-is_present.false)) at (c.in-Err.ensures.runs inputs level)))
+gather_builtin-returns-in-Err t c = λ inputs level. c.ended.ensures inputs level c.args.rest.now _ c.args.into.now.items (ends-bind _ _ _ (rw (c.in_ok-found-in_default-builtin.ensures, ← absent c.args.item.now (sym c.is_present.ensures ∙ c.if-is_present.false)) at (c.in-Err.ensures.runs inputs level)))
 
 pub gather_paths-returns-in_ok-start-in-len1 : goal.gather_paths-returns-in_ok-start-in-len1
 gather_paths-returns-in_ok-start-in-len1 t c = λ inputs level.
