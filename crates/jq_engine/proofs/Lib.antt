@@ -5,13 +5,13 @@ pub mod Fitting
 pub mod Leading
 pub mod OnConstants
 pub mod PassedOn
+pub mod Paths
 pub mod Pipes
-pub mod Puts
 pub mod RangesAtOnce
 pub mod Ready
 pub mod Starting
 pub mod Following
 pub mod Transitions
-pub mod Turning
+pub mod UpdateTurns
 pub mod Updates
 pub mod Waiting

@@ -6,5 +6,5 @@ pub mod Ranges
 pub mod Simple
 pub mod Reaching
 pub mod Tails
-pub mod UpdateEnds
+pub mod Updates
 pub mod Forms

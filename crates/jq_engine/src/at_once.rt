@@ -9,9 +9,9 @@ ghost use Rattle.jq_state.specs.Inputs.{inputs_of};
 ghost use Rattle.jq_single.specs.Single.{Changes, Keeps};
 ghost use Rattle.jq_engine.specs.private.Leading.{GoesOn, at_filter};
 
+use crate::giving::give;
 use crate::guards::Guard;
 use crate::operators::{on_constant, operate};
-use crate::putting::hand_on;
 use crate::tails::begin;
 use jq_ast::Tree;
 use jq_single::{Stop, apply};
@@ -41,7 +41,7 @@ pub(crate) fn run_at_once<'p>(
     match change(alloc, state.nodes(), tree, scope, &mut value) {
         Ok(()) => {
             guard.gain();
-            let progress = hand_on(alloc, state, Item::plain(value))?;
+            let progress = give(alloc, state, Item::plain(value))?;
             Ok(Some(progress))
         }
         Err(Stop::Raised(error)) => {

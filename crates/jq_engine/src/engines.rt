@@ -2,6 +2,7 @@
 ghost use Rattle.jq_state.specs.Inputs.{inputs_of};
 ghost use Rattle.jq_engine.specs.Readiness.{IsReady};
 
+use crate::apart::NESTING;
 use crate::doing::Doing;
 use crate::guards::Guard;
 use crate::running::{Reached, run};
@@ -133,6 +134,7 @@ impl<'p> Engine<'p> {
             next,
             &self.inputs,
             &mut self.guard,
+            NESTING,
         ) {
             Ok(Reached::Output(item)) => {
                 self.doing = Doing::Running(Next::GoBack);

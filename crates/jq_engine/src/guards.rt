@@ -42,11 +42,17 @@ impl Guard {
     /// The same on an item that has no path.
     #[inline(always)]
     pub(crate) fn tries_plain(&self, tree: &Tree) -> bool {
-        if self.credit < self.price {
-            is_small(tree)
-        } else {
+        if self.has_credit() {
             is_tried(tree)
+        } else {
+            is_small(tree)
         }
+    }
+
+    /// Whether there is credit for a filter that is run at once without success.
+    #[inline(always)]
+    pub(crate) fn has_credit(&self) -> bool {
+        self.credit >= self.price
     }
 
     /// A transition was made.

@@ -3,17 +3,18 @@
 //! Entry: `Engine::start`, `Engine::next`. Tests: the commands of `tests/`, `tests/random_filters.py`.
 #![tactic(auto)]
 
+mod apart;
 mod at_once;
 mod bindings;
 mod bodies;
 mod doing;
 mod engines;
 mod folds;
+mod giving;
 mod guards;
 mod operators;
 mod parts;
 mod passing;
-mod putting;
 mod ranges;
 mod running;
 mod simple;
@@ -22,6 +23,7 @@ mod stepping;
 mod tails;
 mod through;
 mod turns;
+mod updating;
 
 pub use engines::Engine;
 pub use turns::Turn;

@@ -14,8 +14,9 @@ ghost use Rattle.jq_engine.specs.private.Leading.{GoesOn, Leads, at_filter, at_i
 
 use crate::at_once::run_at_once;
 use crate::folds::{run_step, top_step};
+use crate::giving::give;
 use crate::guards::Guard;
-use crate::putting::hand_on;
+use crate::small::is_update;
 use crate::tails::begin;
 use jq_ast::Tree;
 use jq_state::frames::Scope;
@@ -50,7 +51,7 @@ fn pass<'p>(
         let progress = run_step(alloc, state, step, scope, item, inputs, guard)?;
         return Ok(Some(progress));
     }
-    let progress = hand_on(alloc, state, item)?;
+    let progress = give(alloc, state, item)?;
     Ok(Some(progress))
 }
 
@@ -89,13 +90,15 @@ fn evaluate<'p>(
     Ok(Some(progress))
 }
 
-// The filter after a `|`.
+// The filter after a `|`, if it is not an update, which has a step of its own.
 #[inline(always)]
 fn piped<'p>(step: &Step<'p>) -> Option<&'p Tree>
     ensures { IfSome result (λ t. (p : abstract.Scope) → step_in step.now p ≡ abstract.pipe_into (named t.now) p) }
 {
     match step {
-        Step::Combining(Combining::PipeInto(tree)) => Some(*tree),
+        Step::Combining(Combining::PipeInto(tree)) => {
+            if is_update(tree) { None } else { Some(*tree) }
+        }
         _ => None,
     }
 }

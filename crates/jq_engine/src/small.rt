@@ -1,6 +1,6 @@
 // Which filters are run at once. This is only advice: a filter that is not run at once does its first transition.
 use jq_ast::{Core, Name, Pattern, Referent, Tree};
-use jq_shapes::is_reading;
+use jq_single::is_reading;
 
 /// Whether a filter may have at most one output. What changes its input before a `|` is left to the machine, where nobody else
 /// holds the input.
@@ -11,10 +11,18 @@ pub(crate) fn is_tried(tree: &Tree) -> bool {
         Tree::Choice(_, _, _) => true,
         Tree::TryCatch(body, _) => is_reading(body),
         Tree::Pipe(first, second) => is_reading(first) && !takes_apart(second),
-        Tree::Update(_, _) => true,
         Tree::BindAs(_, pattern, _) => is_whole(pattern),
         Tree::Call(name, _) => may_run(name),
         _ => is_reading(tree),
+    }
+}
+
+/// Whether a filter is an update, `f |= g`.
+#[inline(always)]
+pub(crate) fn is_update(tree: &Tree) -> bool {
+    match tree {
+        Tree::Update(_, _) => true,
+        _ => false,
     }
 }
 

@@ -8,9 +8,9 @@ ghost use Rattle.jq_state.specs.Nexts.{NextFits, stands};
 ghost use Rattle.jq_engine.specs.private.Leading.{Leads, at_item};
 
 use crate::folds::{run_step, top_step};
+use crate::giving::give;
 use crate::guards::Guard;
 use crate::passing::go_back;
-use crate::putting::hand_on;
 use crate::tails::evaluate;
 use crate::through::pass_through;
 use jq_state::inputs::Inputs;
@@ -68,5 +68,5 @@ pub(crate) fn deliver<'p>(
         state.skip();
         return run_step(alloc, state, step, scope, item, inputs, guard);
     }
-    hand_on(alloc, state, item)
+    give(alloc, state, item)
 }

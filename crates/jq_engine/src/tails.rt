@@ -20,8 +20,8 @@ use crate::bodies::called_body;
 use crate::guards::Guard;
 use crate::parts::{stopped, wait};
 use crate::passing::go_back;
-use crate::putting::{end_without_part, kept_turn};
 use crate::ranges::enter_filter;
+use crate::small::is_update;
 use crate::stepping::deliver;
 use jq_ast::Tree;
 use jq_natives::truth;
@@ -47,7 +47,8 @@ pub(crate) enum Tail<'p> {
     Progress(Progress<'p>),
 }
 
-/// Evaluates a filter, and the filters in tail position after it. Those of at most one output may run at once.
+/// Evaluates a filter, and the filters in tail position after it. Those of at most one output may run at once. An update in tail
+/// position is left to the next step.
 pub(crate) fn evaluate<'p>(
     alloc: Global,
     state: &mut State<'p>,
@@ -66,8 +67,11 @@ pub(crate) fn evaluate<'p>(
     let mut left = TAILS;
     'tails: while left > 0 {
         left -= 1;
-        match next_tail(alloc, state, tree, scope, &mut input, inputs, guard)? {
+        match tail_or_whole(alloc, state, tree, scope, &mut input, inputs, guard)? {
             Tail::Filter(later, inside) => {
+                if is_update(later) {
+                    return Ok(Progress::Moves(Next::Evaluate(later, inside, input)));
+                }
                 tree = later;
                 scope = inside;
             }
@@ -76,31 +80,6 @@ pub(crate) fn evaluate<'p>(
         guard.earn();
     }
     begin(alloc, state, tree, scope, input, inputs, guard)
-}
-
-// The end of a turn of an update that keeps its path does so in place.
-#[inline(always)]
-fn next_tail<'p>(
-    alloc: Global,
-    state: &mut State<'p>,
-    tree: &'p Tree,
-    scope: Scope,
-    input: &mut Item,
-    inputs: &Inputs,
-    guard: &mut Guard,
-) -> Result<Tail<'p>, NoMemory>
-    requires { scope.env < count_of state.old.nodes }
-    ensures { IfOk result (Follows (inputs_of inputs.now) (at_filter (inputs_of inputs.now) state.old (named tree.now) scope (item_of input.old)) state.new input.new) }
-{
-    if let Tree::Array(_) = tree {
-        if let Some(turn) = kept_turn(state, tree, scope, &*input)? {
-            // It holds the value too.
-            drop(taken(input));
-            let progress = end_without_part(alloc, state, turn)?;
-            return Ok(Tail::Progress(progress));
-        }
-    }
-    tail_or_whole(alloc, state, tree, scope, input, inputs, guard)
 }
 
 // A filter of at most one output may run at once where no path is asked for.

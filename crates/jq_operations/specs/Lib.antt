@@ -3,6 +3,4 @@ pub mod Language
 pub mod Pieces
 pub mod Outputs
 pub mod Entering
-pub mod Settings
-pub mod Answers
 pub mod private

@@ -5,7 +5,6 @@
 //!   the other (`arguments`, `pieces`, `entries`, `waiting`).
 //! - Names and calls: what a name is bound to, and the first transitions of variables, definitions, labels, breaks and calls
 //!   (`calls`, `callees`, `labels`, `values`), and whether `f |= g` calls the prelude's `_modify` (`updates`).
-//! - The end of a turn of an update `f |= g`, on values that are owned alone, which are changed in place (`settings`, `turns`).
 //!
 //! Entry: `run`, `delivery::deliver`, `enter_call`. Tests: the commands of `tests/`.
 #![tactic(auto)]
@@ -32,9 +31,7 @@ pub mod pieces;
 mod prelude;
 mod program;
 mod ranges;
-mod settings;
 mod texts;
-mod turns;
 mod updates;
 mod values;
 pub mod waiting;
@@ -49,8 +46,6 @@ pub use operations::run;
 pub use operators::operated;
 pub use outputs::Outputs;
 pub use prelude::find_in_prelude;
-pub use settings::{Setting, keeping_of, setting_of};
 pub use texts::{Inserted, text_in_format};
-pub use turns::{keep, one_path, put};
 pub use updates::has_modify;
 pub use values::{enter_variable, find_value};

@@ -1,5 +1,5 @@
 -- What is claimed of a run that goes on with another filter, of outputs that are added to a list, and of the steps of a fold.
-use Rattle.std.proofs.Common.{◌≡◌, ◌∙◌, if◌then◌else◌, ℕ, List, Bool, true, false, Result, Ok, Err, refl, sym, ap, subst, [], ◌∷◌, ◌++◌, map, reverse, length, Option, Some, option_to_list, arith, None, IfSome}
+use Rattle.std.proofs.Common.{◌≡◌, ◌∙◌, ℕ, List, Bool, true, false, Result, Ok, Err, refl, sym, ap, subst, [], ◌∷◌, ◌++◌, map, reverse, length, Option, Some, option_to_list, arith, None, IfSome}
 use Rattle.std.proofs.lemmas.Bool.{false≢true}
 use Rattle.std.specs.Result.{IsErrAnd}
 use mathlib.Core.Bool.{beq}
@@ -67,8 +67,12 @@ pub keeps_stops : {A : Type 0} (a : Result A Stop) (s : Stop) (v : Value) → Is
 keeps_stops (Ok d) s v h = absurd h
 keeps_stops (Err e) s v h = leaves_same e v
 
+pub keeps_part : {A : Type 0} (a : Result A Stop) (s : Stop) (v w : Value) → IsErrAnd a (λ e. e ≡ s) → Leaves s v w → Keeps a v w
+keeps_part (Ok d) s v w h k = absurd h
+keeps_part (Err e) s v w h k = subst (λ z. Leaves z v w) (sym h) k
+
 -- what each function may use
-pub ruleset known_runs = (part_stops, keeps_stops, bind-one, bind-bind, value_of_item, absent, view-Bool, view-List)
+pub ruleset known_runs = (part_stops, keeps_stops, keeps_part, bind-one, bind-bind, value_of_item, absent, view-Bool, view-List)
 
 -- ---- conditions
 
@@ -104,18 +108,15 @@ with_variable deeper r n w e k body x h =
     ap (λ q. bind (bind q (on_source (bindings_with deeper (tree.whole n) k) e)) (in_bindings body k x)) h
     ∙ bind-one (bound (value_of n w) e) (in_bindings body k x)
 
--- without an output nothing changes
-pub gathers-none : {A : Type 0} (make : List Val → Run Item → Run Item) (d : A) (xs : List Val) (r : Run Item) → r ≡ none → Gathers make (Ok d) xs xs r
-gathers-none make d xs r e = λ q. ap (λ p. make xs (then_run p q)) e
+-- a part that stopped, after `?`
+pub gathers_stops : {A : Type 0} (make : List Val → Run Item → Run Item) (a : Result A Stop) (s : Stop) (xs ys : List Val) (r : Run Item) → IsErrAnd a (λ e. e ≡ s) → ((q : Run Item) → Ends s (make xs (then_run r q))) → Gathers make a xs ys r
+gathers_stops make (Ok d) s xs ys r h k = absurd h
+gathers_stops make (Err e) s xs ys r h k = subst (λ z. (q : Run Item) → Ends z (make xs (then_run r q))) (sym h) k
 
 -- one run after the other
 pub gathers-then : {A B : Type 0} (make : List Val → Run Item → Run Item) (d : A) (a : Result B Stop) (xs ys zs : List Val) (r q : Run Item) → Gathers make (Ok d) xs ys r → Gathers make a ys zs q → Gathers make a xs zs (then_run r q)
 gathers-then make d (Ok c) xs ys zs r q f g = λ p. ap (make xs) (then_run-assoc r q p) ∙ f (then_run q p) ∙ g p
 gathers-then make d (Err s) xs ys zs r q f g = λ p. subst (Ends s) (sym (ap (make xs) (then_run-assoc r q p) ∙ f (then_run q p))) (g p)
-
--- a filter that goes on with another one, and then with the rest
-pub gathers_next : {A : Type 0} (make : List Val → Run Item → Run Item) (a : Result A Stop) (xs ys : List Val) (r s : Run Item) (next later : Item → Run Item) → s ≡ bind r next → Gathers make a xs ys (bind r (λ x. bind (next x) later)) → Gathers make a xs ys (bind s later)
-gathers_next make a xs ys r s next later e = subst (Gathers make a xs ys) (sym (ap (λ q. bind q later) e ∙ bind-bind r next later))
 
 -- a run that stopped is still stopped after more runs
 pub stops-then : (make : List Val → Run Item → Run Item) (s : Stop) (xs : List Val) (r q : Run Item) → ((p : Run Item) → Ends s (make xs (then_run r p))) → (p : Run Item) → Ends s (make xs (then_run (then_run r q) p))
@@ -132,8 +133,8 @@ made-fail inputs level (rest.Parts' guarded q later) xs v = made-fail inputs lev
 made-fail inputs level (rest.Path' q later) xs v = made-fail inputs level later xs v
 made-fail inputs level (rest.Fold n t p) xs v = refl
 
-pub gathers-fail : (inputs : Run Value) (level : ℕ) (later : Rest) (xs : List Val) (v : Value) (r : Run Item) → r ≡ fail v → (q : Run Item) → made inputs level later xs (then_run r q) ≡ fail v
-gathers-fail inputs level later xs v r e q = ap (λ p. made inputs level later xs (then_run p q)) e ∙ made-fail inputs level later xs v
+pub gathers_fail : (inputs : Run Value) (level : ℕ) (later : Rest) (xs : List Val) (v : Value) (r : Run Item) → r ≡ fail v → (q : Run Item) → made inputs level later xs (then_run r q) ≡ fail v
+gathers_fail inputs level later xs v r e q = ap (λ p. made inputs level later xs (then_run p q)) e ∙ made-fail inputs level later xs v
 
 whole : (r : Run Item) → then_run (bind r one) none ≡ r
 whole r = then_run-none (bind r one) ∙ bind-one_right r
@@ -172,6 +173,10 @@ given-last : (xs : List items.Item) (x : items.Item) → then_run (one (item_of 
 given-last xs x =
     ap (λ is. record { items = is; ending = Done })
     (sym (ap reverse (map-append item_of xs (x ∷ [])) ∙ reverse-append (map item_of xs) (item_of x ∷ [])))
+
+-- the value of an added item
+pub added : (xs ys : List Val) (x : items.Item) → ys ≡ xs ++ x.value ∷ [] → map view ys ≡ map view xs ++ value_in (item_of x) ∷ []
+added xs ys x e = ap (map view) e ∙ map-append view xs (x.value ∷ []) ∙ ap (λ (w : Value). map view xs ++ w ∷ []) (sym (value_of_item x))
 
 -- taking the last element of the vector takes the first item
 pub last_given : (r : Option items.Item) (xs ys : List items.Item) (x : items.Item) → xs ≡ ys ++ option_to_list r → r ≡ Some x → given_of xs ≡ before (item_of x ∷ []) (given_of ys)

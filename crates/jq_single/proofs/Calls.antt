@@ -17,6 +17,7 @@ use Rattle.jq_meaning.specs.Env.{Env, Callee, bound, closure, find_callee, find_
 use Rattle.std.proofs.lemmas.Bool.{false≢true}
 use Rattle.jv_data.specs.Text.{text_of}
 use Rattle.jq_ast.proofs.shared.Counts.{count_trees}
+use Rattle.jq_ast.proofs.shared.Forms.{named-Call, named-PreludeCall}
 use Rattle.jq_ast.specs.Constants.{is_text}
 use Rattle.jq_ast.specs.Leaves.{characters, literal_of}
 use Rattle.jq_ast.specs.declared.leaves.Literal.{Literal}
@@ -39,6 +40,9 @@ use Rattle.jq_ast.specs.declared.tree.Tree.TheVariants as code
 use Rattle.jq_tree.specs.Tree as tree
 use Rattle.jq_operations.specs.Callees as callees
 use Rattle.jv_data.specs.declared.values.Val as val
+
+-- the trees of calls
+pub ruleset call_forms = (named-Call, named-PreludeCall)
 
 -- the items of a list of one or two
 pub one_value : {A : Type 0} (ts : List A) (a : A) → length ts ≡ 1 → a ≡ get_or ts 0 a → ts ≡ a ∷ []
@@ -177,7 +181,9 @@ kind_told p op t u n l v (Some b) e d f g h = λ inputs level.
 pub paths-rest : (r : Run Item) (later : Item → Run Item) → bind (paths_in r) later ≡ bind r (λ x. bind (path_item x) later)
 paths-rest r later = ap (λ q. bind q later) (paths-bind r) ∙ bind-bind r path_item later
 
--- with one argument
-pub path_given : (p : Context) (inputs : Run Value) (level : ℕ) (ts : List ast.Tree) (t : ast.Tree) (v : Value) → length ts ≡ 1 → t ≡ get_or ts 0 t
-    → builtin_in p inputs level paths (trees_of (map named ts)) (plain v) ≡ paths_in (run p inputs level (named t) (located v []))
-path_given p inputs level ts t v e h = ap (λ us. builtin_in p inputs level paths (trees_of (map named us)) (plain v)) (one_value ts t e h)
+-- the paths of one argument
+pub paths_run : (p : Context) (inputs : Run Value) (level : ℕ) (ts : List ast.Tree) (t : ast.Tree) (v : Value) (x : Item) (later : Item → Run Item) → length ts ≡ 1 → t ≡ get_or ts 0 t → x ≡ located v []
+    → bind (builtin_in p inputs level paths (trees_of (map named ts)) (plain v)) later ≡ bind (run p inputs level (named t) x) (λ y. bind (path_item y) later)
+paths_run p inputs level ts t v x later e h is =
+    ap (λ us. bind (builtin_in p inputs level paths (trees_of (map named us)) (plain v)) later) (one_value ts t e h)
+    ∙ paths-rest (run p inputs level (named t) (located v [])) later ∙ ap (λ y. bind (run p inputs level (named t) y) (λ z. bind (path_item z) later)) (sym is)

@@ -1,3 +1,4 @@
+pub mod shared
 pub mod Binding
 pub mod Calls
 pub mod UpdateTurns

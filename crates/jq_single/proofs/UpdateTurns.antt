@@ -1,9 +1,9 @@
 -- What is claimed of updates, and of the first output of a run.
-use Rattle.std.proofs.Common.{◌≡◌, ◌∙◌, List, [], ◌∷◌, Result, Ok, Err, refl, ap, ℕ, suc, ◌++◌, length, get_or, map, codes, sym, subst, Bool, true, false}
-use Rattle.jv_data.specs.Value.{Value, array, items_of, compare}
-use Rattle.jq_meaning.specs.Runs.{Item, Ending, Run, then_run, plain, located, value_in, Done, none, one, fail, gathered, answered, bind, paths_in}
+use Rattle.std.proofs.Common.{◌≡◌, ◌∙◌, List, [], ◌∷◌, Result, Ok, Err, refl, ap, ℕ, suc, ◌++◌, map, sym, subst}
+use Rattle.jv_data.specs.Value.{Value, array, items_of}
+use Rattle.jq_meaning.specs.Runs.{Item, Ending, Run, then_run, plain, located, value_in, none, one, fail, answered, bind, paths_in}
 use Rattle.jq_single.specs.Single.{Changed, Ends}
-use Rattle.jq_single.specs.private.FirstOutputs.{first_alone}
+use Rattle.jq_single.specs.private.Updates.{first_alone}
 use Rattle.jq_single.specs.declared.stops.Stop.{Stop}
 use Rattle.jv_arith.specs.Arith.{add_of}
 use Rattle.jv_data.proofs.shared.Levels.{view-List}
@@ -13,10 +13,8 @@ use Rattle.jv_data.specs.declared.containers.arrays.Array.{Array}
 use Rattle.jv_data.specs.declared.values.Val.{Val}
 use Rattle.jv_data.proofs.shared.Items.{values_of-items_of}
 use Rattle.jv_value.specs.GetPath.{getpath_of}
-use Rattle.jq_ast.specs.Named.{name_of, named}
-use Rattle.jq_ast.specs.declared.names.Modify.{Modify}
+use Rattle.jq_ast.specs.Named.{named}
 use Rattle.jq_tree.specs.Tree.{Name, Tree, Trees, no_trees, more_trees, trees_of}
-use Rattle.jq_tree.specs.WrittenOut.{modify}
 use Rattle.jq_natives.specs.Answers.{Answer}
 use Rattle.jq_natives.specs.PathNatives.{getpath_native_of, setpath_native_of}
 use Rattle.jq_meaning.specs.Env.{Env, bound, closure, function, value_of, with_arguments}
@@ -27,21 +25,13 @@ use Rattle.jq_single.specs.declared.scopes.Scope.TheVariants as scope
 use Rattle.jq_meaning.specs.Meaning.{meaning}
 use Rattle.jq_meaning.specs.updates.Known.{HasModify}
 use Rattle.jq_meaning.specs.laws.Updates.{ModifyStays}
-use Rattle.jq_meaning.specs.laws.Updating.{with_answer, on_outputs, turn_of, turns, updated, update_run}
+use Rattle.jq_meaning.specs.laws.Updating.{with_answer, on_outputs, turn_of, updated, update_run}
 use Rattle.jq_meaning.proofs.shared.machine.RunLaws.{bind-one}
 use Rattle.jq_single.specs.private.Gathering.{GoesOn}
-use Rattle.jq_single.proofs.Binding.{bind-known, ends-bind, gathered_same}
-use Rattle.jq_single.proofs.Calls.{two_values}
-use Rattle.std.proofs.lemmas.Bool.{false≢true}
-use Rattle.std.proofs.Props.{props}
-use Rattle.std.specs.Bool.{Decides}
-use Rattle.std.specs.Ordering.{is_eq}
-use mathlib.Core.HLevel.{hedberg}
-use Rattle.jv_data.proofs.shared.Order.{same_Decides}
+use Rattle.jq_single.proofs.shared.RunSets.{run_set}
+use Rattle.jq_single.proofs.Binding.{bind-known, ends-bind}
 use Rattle.jq_single.specs.declared.stops.Stop.TheVariants as stop
 use Rattle.jv_data.specs.declared.values.Val as val
-use Rattle.jq_ast.specs.declared.tree.Tree as ast
-use Rattle.jq_tree.specs.Tree as tree
 
 -- the only output is the first one
 pub changed-first : {A : Type 0} (a : Result A Stop) (w : Value) (r : Run Item) → Changed a w r → Changed a w (first_alone r)
@@ -60,11 +50,6 @@ pub first-then : (r s q : Run Item) → first_alone r ≡ q → first_alone (the
 first-then r s q h = first-same r.items r.ending s ∙ ap (λ (z : Run Item). first_alone (then_run z s)) h
 
 -- ---- the call of `_modify`
-
-pub modify_tree : (m : Modify) (ts : List ast.Tree) (a b : ast.Tree) → length ts ≡ 2 → a ≡ get_or ts 0 a → b ≡ get_or ts 1 b
-    → tree.prelude_call (name_of m.name) (trees_of (map named ts)) ≡ modify (named a) (named b)
-modify_tree m ts a b e h k =
-    ap (λ n. tree.prelude_call n (trees_of (map named ts))) m.same ∙ ap (λ us. tree.prelude_call (codes "_modify") (trees_of (map named us))) (two_values ts a b e h k)
 
 pub two_calls_deep : (depth d : ℕ) (f g : Tree) (e : Env) (k : ℕ) (v : Value) → depth ≡ suc (suc d)
     → update_run depth f g e k (plain v) ≡ updated k (paths_in (meaning d f e k (located v []))) (λ w. meaning d g e (suc k) (plain w)) (plain v)
@@ -86,13 +71,6 @@ modify_outside stays inputs (scope.Call' p own ps ts q caller) h =
     modify_in_call stays (map text_of ps.now) (trees_of (map named ts.now)) (scope_env inputs caller) (scope_env inputs own) (modify_outside stays inputs own h)
 
 -- ---- the paths
-
-pub known_paths : (k : ℕ) (g : Value → Run Item) (r : Run Item) (xs ys : List Val) (v : Value) → gathered r ≡ one (plain (array (items_of (map view xs)))) → ys ≡ xs
-    → updated k r g (plain v) ≡ turns k g (map view ys) Done v (array (items_of []))
-known_paths k g r xs ys v h same =
-    let vs = map view ys in
-    let is = gathered_same r.items r.ending vs (h ∙ ap (λ (zs : List Val). one (plain (array (items_of (map view zs))))) (sym same)) in
-    ap (λ ps. turns k g ps r.ending v (array (items_of []))) is.0 ∙ ap (λ e. turns k g vs e v (array (items_of []))) is.1
 
 -- a path that is an array of keys
 pub getpath_keys : (v : Value) (path : Val) (a : Array Val) (ks : List Val) → path ≡ val.List a → ks ≡ items_in a → getpath_native_of v (view path) ≡ getpath_of v (map view ks)
@@ -133,16 +111,6 @@ module _ (k : ℕ) (x ds p : Value) (go : Value → Value → Run Item) where
 -- a path is added to the list
 pub listed_more : (ds es : List Value) (p : Value) → es ≡ ds ++ p ∷ [] → add_of (array (items_of ds)) (array (items_of (p ∷ []))) ≡ Ok (array (items_of es))
 listed_more ds es p h = ap (λ vs. Ok (array (items_of (vs ++ p ∷ [])))) (values_of-items_of ds) ∙ ap (λ vs. Ok (array (items_of vs))) (sym h)
-
-decided : {P : Type 0} (b : Bool) → Decides b P → Dec P
-decided true d = yes (d.0 refl)
-decided false d = no (λ p. false≢true (d.1 p))
-
-value_set : IsSet Value
-value_set = hedberg (λ v w. decided (is_eq (compare v w)) (same_Decides v w))
-
-run_set : IsSet (Run Item)
-run_set = hlevel (props, value_set)
 
 pub changed-prop : {A : Type 0} (a : Result A Stop) (w : Value) (r : Run Item) → IsProp (Changed a w r)
 changed-prop (Ok d) w r = run_set r (one (plain w))

@@ -2,7 +2,6 @@
 pub mod Scopes
 pub mod Finds
 pub mod Parts
-pub mod FirstOutputs
 pub mod Making
 pub mod Gathering
 pub mod Updates

@@ -18,14 +18,14 @@ ghost use Rattle.jq_tree.specs.Tree as form;
 
 use crate::contexts::{Context, FUEL};
 use crate::finding::Called;
+use crate::readings::{goes_over_all, is_cheap};
 use crate::scopes::{Outside, Scope};
-use crate::stops::Stop;
+use crate::stops::{Stop, answer};
 use jq_ast::{Function, Operator, Pattern, Tree};
 use jq_natives::{Native, call_in_place, truth};
 use jq_operations::{Builtin, operated};
-use jq_shapes::{goes_over_all, is_cheap};
 use jq_state::environments::Nodes;
-use jv_data::{Fail, Val};
+use jv_data::Val;
 use std::alloc::Global;
 use std::mem::replace;
 
@@ -95,7 +95,7 @@ impl<'s> Context<'s> {
             }
             Tree::Define(function, rest) => self.change_define(function, rest, value),
             Tree::Call(_, _) | Tree::PreludeCall(_, _) => self.change_call(tree, value),
-            Tree::Update(modify, parts) => self.change_update(modify, &**parts, value),
+            Tree::Update(_, _) => self.change_update(tree, value),
             Tree::Reduce(source, pattern, start, update) => {
                 self.change_reduce(source, pattern, start, update, value)
             }
@@ -130,10 +130,8 @@ impl<'s> Context<'s> {
             return Ok(());
         }
         let second = self.get_part(right, value)?;
-        match self.change_operand(left, value) {
-            Ok(()) => operate_in_place(self.alloc, operator, value, &second),
-            Err(stop) => Err(stop),
-        }
+        self.change_operand(left, value)?;
+        operate_in_place(self.alloc, operator, value, &second)
     }
 
     // An operand that is often the input.
@@ -292,6 +290,7 @@ impl<'s> Context<'s> {
 }
 
 // The answer of an operator replaces the left value. `+` changes a left value that is not shared in place.
+#[tactic(auto, using(crate::proofs::Binding::known_runs), unfolding(jq_meaning::specs::Continuations::on_left))]
 fn operate_in_place(
     alloc: Global,
     operator: Operator,
@@ -302,14 +301,8 @@ fn operate_in_place(
     ensures keeps { (v : Value) → Keeps result v (view left.new) }
 {
     let taken = replace(left, Val::Null);
-    match operated(alloc, operator, taken, right) {
-        Ok(found) => {
-            *left = found;
-            Ok(())
-        }
-        Err(Fail::Raised(error)) => Err(Stop::Raised(error)),
-        Err(Fail::NoMemory) => Err(Stop::NoMemory),
-    }
+    *left = answer(operated(alloc, operator, taken, right))?;
+    Ok(())
 }
 
 /// The scope of a body, in which the parameters are bound to the arguments of a call. Without parameters it is the body's own.
@@ -340,12 +333,6 @@ pub(crate) fn call_on(
     ensures keeps { (v : Value) → Keeps result v (view value.new) }
 {
     let taken = replace(value, Val::Null);
-    match call_in_place(alloc, native, taken, arguments) {
-        Ok(found) => {
-            *value = found;
-            Ok(())
-        }
-        Err(Fail::Raised(error)) => Err(Stop::Raised(error)),
-        Err(Fail::NoMemory) => Err(Stop::NoMemory),
-    }
+    *value = answer(call_in_place(alloc, native, taken, arguments))?;
+    Ok(())
 }

@@ -48,6 +48,7 @@ pub(crate) enum Called<'s> {
 
 impl<'s> Context<'s> {
     /// What a call runs.
+    #[tactic(auto, using(crate::proofs::Calls::call_forms))]
     #[inline(always)]
     pub(crate) fn called(&self, tree: &'s Tree) -> Called<'s>
         ensures { Calls self.now (named tree.now) result }
@@ -69,12 +70,8 @@ impl<'s> Context<'s> {
         let count = arguments.len();
         match callee_of(self.scope, name, count) {
             Found::Function(function, own) => {
-                Called::Body(
-                    &function.body,
-                    function.parameters.as_slice(),
-                    own,
-                    arguments,
-                )
+                let parameters = function.parameters.as_slice();
+                Called::Body(&function.body, parameters, own, arguments)
             }
             Found::Closure(body, own) => Called::Body(body, &[], own, arguments),
             Found::Nothing => Called::Builtin(builtin_named(name.text.as_str(), count), arguments),
@@ -88,12 +85,8 @@ impl<'s> Context<'s> {
     {
         match prelude_of(self.scope, name, arguments.len()) {
             Found::Function(function, own) => {
-                Called::Body(
-                    &function.body,
-                    function.parameters.as_slice(),
-                    own,
-                    arguments,
-                )
+                let parameters = function.parameters.as_slice();
+                Called::Body(&function.body, parameters, own, arguments)
             }
             _ => Called::Unknown,
         }
@@ -223,15 +216,9 @@ fn of_the_run<'s>(nodes: &'s Nodes<'s>, callee: Callee<'s>) -> Found<'s>
 {
     match callee {
         Callee::Function(function, env) => {
-            let outside = Outside { nodes, env };
-            let own = Scope::Run(outside);
-            Found::Function(function, own)
+            Found::Function(function, Scope::Run(Outside { nodes, env }))
         }
-        Callee::Closure(body, env) => {
-            let outside = Outside { nodes, env };
-            let own = Scope::Run(outside);
-            Found::Closure(body, own)
-        }
+        Callee::Closure(body, env) => Found::Closure(body, Scope::Run(Outside { nodes, env })),
         Callee::NoCallee => Found::Nothing,
     }
 }
@@ -268,10 +255,7 @@ fn name_alone(tree: &Tree) -> Option<&Name>
     ensures { IfSome result (λ n. named tree.now ≡ form.call (name_of n.now) form.no_trees) }
 {
     match tree {
-        Tree::Call(name, arguments) => match arguments.as_slice() {
-            [] => Some(name),
-            _ => None,
-        },
+        Tree::Call(name, arguments) if arguments.is_empty() => Some(name),
         _ => None,
     }
 }
@@ -296,10 +280,7 @@ fn is_type(scope: &Scope<'_>, name: &Name) -> bool
 fn is_unbound(scope: &Scope<'_>, name: &Name) -> bool
     ensures { IsTrue result → (inputs : Run Value) → meaning.find_callee (name_of name.now) 0 (scope_env inputs scope.now) ≡ meaning.no_callee }
 {
-    match callee_of(scope, name, 0) {
-        Found::Nothing => true,
-        _ => false,
-    }
+    matches!(callee_of(scope, name, 0), Found::Nothing)
 }
 
 // The result of an operator on the name of a value's kind and a text, if it is `==` or `!=`.

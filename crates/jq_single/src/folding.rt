@@ -10,11 +10,11 @@ ghost use Rattle.jq_single.specs.private.Gathering.{FoldsAs, FoldsFrom, GathersT
 ghost use Rattle.jq_single.specs.private.Parts.{ChangesTo};
 
 use crate::contexts::Context;
+use crate::readings::{copies, pays_for_copy};
 use crate::rests::Rest;
 use crate::scopes::Scope;
 use crate::stops::Stop;
 use jq_ast::{Pattern, Tree};
-use jq_shapes::{copies, pays_for_copy};
 use jq_state::items::Item;
 use jv_data::{NoMemory, Val};
 
@@ -130,16 +130,12 @@ impl<'s> Context<'s> {
         keep(&mut states, state)?;
         let input = Item::plain(value.copy()?);
         let update = Rest::Fold(&*name, &*update, &*self);
-        match (&*self).gather(&*source, &input, &update, &mut states) {
-            Ok(()) => match take(&mut states) {
-                Some(state) => {
-                    *value = state;
-                    Ok(())
-                }
-                None => Err(Stop::Unknown),
-            },
-            Err(stop) => Err(stop),
-        }
+        (&*self).gather(&*source, &input, &update, &mut states)?;
+        let Some(state) = take(&mut states) else {
+            return Err(Stop::Unknown);
+        };
+        *value = state;
+        Ok(())
     }
 
     /// A step of a fold on the last value of a list, its state.
@@ -164,14 +160,13 @@ impl<'s> Context<'s> {
             kept: false,
             ..*self
         };
-        match inside.step(name, update, value, &mut state) {
-            Ok(()) => Ok(keep(states, state)?),
-            Err(stop) => Err(stop),
-        }
+        inside.step(name, update, value, &mut state)?;
+        Ok(keep(states, state)?)
     }
 
     // A step of a fold: the variable is bound to a value, and the output of the update replaces the state, or null if it has none.
     #[cycle(single)]
+    #[inline(always)]
     fn step(
         &self,
         name: &'s String,

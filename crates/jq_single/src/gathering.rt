@@ -5,15 +5,13 @@ ghost use Rattle.jq_tree.specs.Tree.{trees_of};
 ghost use Rattle.jq_operations.specs.Language.{meaning_of};
 ghost use Rattle.jq_state.specs.Items.{item_of};
 ghost use Rattle.jq_operations.specs.Entering.{defined};
-ghost use Rattle.jq_single.specs.private.Gathering.{GathersAll, GathersBuiltin, GathersOf, Gathers, GathersRun, given_of, made, numbers_from, supplied};
+ghost use Rattle.jq_single.specs.private.Gathering.{GathersAll, GathersBuiltin, GathersOf, Gathers, GathersRun, made, numbers_from, supplied};
 ghost use Rattle.jv_data.specs.Value.{Value};
 ghost use Rattle.jv_data.specs.View.{view};
 ghost use Rattle.jq_meaning.specs.machine.Operations.{result_of};
 ghost use Rattle.jq_state.specs.Steps.{operation_of};
 ghost use Rattle.jq_meaning.specs.Runs.{Run, before, none, one, value_in, located, plain};
-ghost use Rattle.jq_operations.specs.Outputs.{outputs_of};
 ghost use Rattle.jq_single.specs.Single.{Ends};
-ghost use Rattle.jq_ast.specs.Leaves.{key_of};
 ghost use Rattle.jq_tree.specs.Tree as form;
 ghost use Rattle.jq_meaning.specs.Runs as runs;
 ghost use Rattle.jq_meaning.specs.Builtins as meaning;
@@ -155,10 +153,8 @@ impl<'s> Context<'s> {
     ) -> Result<(), Stop>
         ensures { GathersOf self.now (form.comma (named first.now) (named second.now)) (item_of item.now) rest.now result into.old.items into.new.items }
     {
-        match self.gather(first, item, rest, into) {
-            Ok(()) => self.gather(second, item, rest, into),
-            Err(stop) => Err(stop),
-        }
+        self.gather(first, item, rest, into)?;
+        self.gather(second, item, rest, into)
     }
 
     // `if f then g else h end`.
@@ -379,29 +375,13 @@ impl<'s> Context<'s> {
             fuel: self.fuel - 1,
             ..*self
         };
-        let outputs = run(self.alloc, operation, item)?;
-        inside.give_outputs(outputs, later, into)
-    }
-
-    // Runs the rest of the filter on the outputs of a step.
-    #[cycle(single)]
-    fn give_outputs(
-        &self,
-        outputs: Outputs,
-        rest: &Rest<'s>,
-        into: &mut Vec<Val>,
-    ) -> Result<(), Stop>
-        ensures { GathersRun (outputs_of outputs) rest.now result into.old.items into.new.items }
-    {
-        match outputs {
+        match run(self.alloc, operation, item)? {
             Outputs::Nothing => Ok(()),
-            Outputs::One(item) => self.give(item, rest, into),
-            Outputs::Several(items) => self.give_all(Supply::Items(items), rest, into),
-            // A step never makes numbers of a range.
-            Outputs::Numbers(_, _, _) => Err(Stop::Unknown),
+            Outputs::One(item) => inside.give(item, later, into),
+            Outputs::Several(items) => inside.give_all(Supply::Items(items), later, into),
             Outputs::Error(error) => Err(Stop::Raised(error)),
-            // Nor does it halt.
-            Outputs::Stopped(_) => Err(Stop::Unknown),
+            // A step neither makes numbers of a range nor halts.
+            Outputs::Numbers(_, _, _) | Outputs::Stopped(_) => Err(Stop::Unknown),
         }
     }
 
@@ -411,10 +391,7 @@ impl<'s> Context<'s> {
         ensures { GathersRun (supplied supply) rest.now result into.old.items into.new.items }
     {
         while let Some(item) = take_item(&mut supply) {
-            match self.give(item, rest, into) {
-                Ok(()) => {}
-                Err(stop) => return Err(stop),
-            }
+            self.give(item, rest, into)?;
         }
         Ok(())
     }
@@ -477,8 +454,11 @@ impl<'s> Context<'s> {
         ensures { GathersBuiltin self.now meaning.range (trees_of (map named arguments.now)) (plain (view value.now)) rest.now result into.old.items into.new.items }
     {
         match arguments {
-            [start, end] => match self.get_two(start, end, value) {
-                Ok((first, last)) => self.give_range(&first, &last, rest, into),
+            [start, end] => match self.get(start, value) {
+                Ok(first) => match self.get(end, value) {
+                    Ok(last) => self.give_range(&first, &last, rest, into),
+                    Err(stop) => ended(stop),
+                },
                 Err(stop) => ended(stop),
             },
             _ => Err(Stop::Unknown),
@@ -510,6 +490,7 @@ impl<'s> Context<'s> {
 }
 
 // Adds the value of an item to a list.
+#[tactic(auto, using(crate::proofs::Binding::added))]
 fn add(into: &mut Vec<Val>, item: Item) -> Result<(), NoMemory>
     ensures { OnOk result (map view into.new.items ≡ map view into.old.items ++ value_in (item_of item) ∷ []) }
 {
@@ -529,26 +510,15 @@ fn ended(stop: Stop) -> Result<(), Stop>
     }
 }
 
-// Takes the first item out of a supply.
+// Takes the first item out of a supply: the last element of a vector.
+#[tactic(auto, using(crate::proofs::Binding::last_given))]
+#[inline(always)]
 fn take_item(supply: &mut Supply) -> Option<Item>
     ensures { MatchOption result (supplied supply.old ≡ none) (λ x. supplied supply.old ≡ before (item_of x ∷ []) (supplied supply.new)) }
 {
     match supply {
-        Supply::Items(items) => take_last(items),
-        Supply::Numbers(numbers) => match take_number(numbers) {
-            Some(value) => Some(Item::plain(value)),
-            None => None,
-        },
-    }
-}
-
-// Takes the first item, which is the last element of the vector.
-fn take_last(items: &mut Vec<Item>) -> Option<Item>
-    ensures { MatchOption result (given_of items.old.items ≡ none) (λ x. given_of items.old.items ≡ before (item_of x ∷ []) (given_of items.new.items)) }
-{
-    match items.pop() {
-        Some(item) => Some(item),
-        None => None,
+        Supply::Items(items) => Some(items.pop()?),
+        Supply::Numbers(numbers) => Some(Item::plain(take_number(numbers)?)),
     }
 }
 

@@ -3,7 +3,7 @@ ghost use Rattle.std.specs.Prelude.{ℕ, List, []};
 ghost use Rattle.jv_data.specs.View.{view};
 ghost use Rattle.jq_ast.specs.Leaves.{operator_of};
 ghost use Rattle.jq_ast.specs.Named.{named, name_of, named_entry};
-ghost use Rattle.jq_single.specs.private.Parts.{RunsTo, Answers, Follows, GetsTwo, decided};
+ghost use Rattle.jq_single.specs.private.Parts.{RunsTo, Answers, Follows, decided};
 ghost use Rattle.jq_meaning.specs.Continuations.{on_target, format_of, put_between, text_item};
 ghost use Rattle.jq_meaning.specs.Runs.{plain, bind};
 ghost use Rattle.jv_data.specs.Shared.{text_in};
@@ -65,21 +65,6 @@ impl<'s> Context<'s> {
             Tree::Variable(name) => Ok(value_of(self.scope, name)?),
             _ => self.get(tree, value),
         }
-    }
-
-    /// The outputs of two filters, where the second is run after the first.
-    #[cycle(single)]
-    pub(crate) fn get_two(
-        &self,
-        first: &'s Tree,
-        second: &'s Tree,
-        value: &Val,
-    ) -> Result<(Val, Val), Stop>
-        ensures { GetsTwo self.now (named first.now) (named second.now) (view value.now) result }
-    {
-        let one = self.get(first, value)?;
-        let other = self.get(second, value)?;
-        Ok((one, other))
     }
 
     /// The output of a filter that makes a value from those of its parts.
@@ -165,7 +150,8 @@ impl<'s> Context<'s> {
     ) -> Result<Val, Stop>
         ensures { RunsTo self.now (form.slice (named target.now) (named from.now) (named to.now) guarded) (view value.now) result }
     {
-        let (start, end) = self.get_two(from, to, value)?;
+        let start = self.get(from, value)?;
+        let end = self.get(to, value)?;
         let bounds = slice_key(self.alloc, start, end)?;
         self.field(target, &bounds, guarded, value)
     }
@@ -402,6 +388,7 @@ impl<'s> Context<'s> {
 }
 
 // The part of a value at a key.
+#[tactic(auto, unfolding(jq_meaning::specs::Continuations::on_target))]
 fn part_at(alloc: Global, guarded: bool, target: &Val, key: &Val) -> Result<Val, Stop>
     ensures { Answers result (on_target guarded (view key.now) (plain (view target.now))) }
 {
@@ -426,8 +413,6 @@ fn inserted(text: Inserted) -> Result<SharedText, Stop>
 fn get_format(alloc: Global, format: &Name, value: &Val) -> Result<Val, Stop>
     ensures { Answers result (bind (put_between [] [] (format_of (name_of format.now) (view value.now))) text_item) }
 {
-    match inserted(text_in_format(alloc, format, "", value, "")?) {
-        Ok(text) => Ok(Val::Text(text)),
-        Err(stop) => Err(stop),
-    }
+    let text = inserted(text_in_format(alloc, format, "", value, "")?)?;
+    Ok(Val::Text(text))
 }

@@ -1,11 +1,12 @@
 // Why a filter that was run at once has no output.
 ghost use Rattle.std.specs.Prelude.{◌≡◌};
 ghost use Rattle.jv_data.specs.Fails.{AnswersAs};
+ghost use Rattle.jv_data.specs.Value.{Value};
 ghost use Rattle.jv_data.specs.View.{view};
 ghost use Rattle.jq_meaning.specs.Runs.{answered, plain};
 ghost use Rattle.jq_meaning.specs.Steps.{guarded_fail};
 ghost use Rattle.jq_natives.specs.Answers.{Answer};
-ghost use Rattle.jq_single.specs.Single.{Ends};
+ghost use Rattle.jq_single.specs.Single.{Ends, Keeps};
 ghost use Rattle.jq_single.specs.private.Parts.{Answers};
 
 use jv_data::{Fail, NoMemory, Val};
@@ -44,9 +45,11 @@ impl From<AllocError> for Stop {
     }
 }
 
-/// The value of an answer, or its error.
+/// The value of an answer, or its error. An answer is never unknown.
+#[inline(always)]
 pub(crate) fn answer(answer: Result<Val, Fail>) -> Result<Val, Stop>
-    ensures { (expected : Answer) → AnswersAs answer expected → Answers result (answered plain expected) }
+    ensures runs { (expected : Answer) → AnswersAs answer expected → Answers result (answered plain expected) }
+    ensures known { (before later : Value) → Keeps result before later }
 {
     match answer {
         Ok(value) => Ok(value),

@@ -4,25 +4,24 @@ ghost use Rattle.jv_data.specs.Value.{Value};
 ghost use Rattle.jv_data.specs.View.{view};
 ghost use Rattle.jv_value.specs.GetPath.{getpath_of};
 ghost use Rattle.jq_natives.specs.declared.native.Native.TheVariants.{DelPaths, SetPath};
-ghost use Rattle.jq_ast.specs.Named.{name_of, named};
-ghost use Rattle.jq_tree.specs.Tree.{trees_of};
+ghost use Rattle.jq_ast.specs.Named.{named};
+ghost use Rattle.jq_tree.specs.WrittenOut.{modify};
 ghost use Rattle.jq_meaning.specs.Builtins.{plain_native};
 ghost use Rattle.jq_single.specs.Single.{Changed, Keeps};
 ghost use Rattle.jq_single.specs.private.Parts.{ChangesTo};
-ghost use Rattle.jq_single.specs.private.Updates.{ChangesParts, FindsPaths, TakesTurn, TakesTurns, listed};
-ghost use Rattle.jq_single.specs.private.FirstOutputs.{ChangesToFirst};
+ghost use Rattle.jq_single.specs.private.Updates.{ChangesParts, ChangesToFirst, FindsPaths, TakesTurn, TakesTurns, listed};
 ghost use Rattle.jq_tree.specs.Tree as form;
 
 use crate::changing::call_on;
 use crate::contexts::Context;
 use crate::finding::has_modify;
 use crate::gathering::start_at;
+use crate::readings::pays_for_copy;
 use crate::rests::Rest;
 use crate::stops::Stop;
-use jq_ast::{Modify, Tree};
+use jq_ast::Tree;
 use jq_meaning::updates::an_update_is_its_turns;
 use jq_natives::Native;
-use jq_shapes::pays_for_copy;
 use jv_data::{Array, NoMemory, Val};
 use jv_value::getpath;
 use jv_value::laws::deleting_no_path_changes_nothing;
@@ -35,29 +34,22 @@ impl<'s> Context<'s> {
     /// `f |= g`, where both filters are two calls deep. If `_modify` is not known to be the prelude's, it is not run at once.
     #[cycle(single)]
     #[inline(never)]
-    pub(crate) fn change_update(
-        &self,
-        modify: &Modify,
-        parts: &'s [Tree],
-        value: &mut Val,
-    ) -> Result<(), Stop>
-        ensures runs { ChangesTo self.now (form.prelude_call (name_of modify.now.name) (trees_of (map named parts.now))) (view value.old) (view value.new) result }
+    pub(crate) fn change_update(&self, tree: &'s Tree, value: &mut Val) -> Result<(), Stop>
+        ensures runs { ChangesTo self.now (named tree.now) (view value.old) (view value.new) result }
         ensures keeps { Keeps result (view value.old) (view value.new) }
     {
         an_update_is_its_turns();
-        match parts {
-            [paths, update] => {
-                if self.depth < 2 || !has_modify(self.scope) {
-                    return Err(Stop::Unknown);
-                }
-                let inside = Context {
-                    depth: self.depth - 2,
-                    ..*self
-                };
-                inside.change_parts(&*paths, &*update, value)
-            }
-            _ => Err(Stop::Unknown),
+        let Some((paths, update)) = filters_of_update(tree) else {
+            return Err(Stop::Unknown);
+        };
+        if self.depth < 2 || !has_modify(self.scope) {
+            return Err(Stop::Unknown);
         }
+        let inside = Context {
+            depth: self.depth - 2,
+            ..*self
+        };
+        inside.change_parts(paths, update, value)
     }
 
     // The parts at the paths of a filter. One part is changed in place. With more of them a copy of the value is changed, since `g`
@@ -79,7 +71,7 @@ impl<'s> Context<'s> {
         }
     }
 
-    // The paths of a filter into a value.
+    /// The paths of a filter into a value.
     #[cycle(single)]
     fn paths_of(&self, tree: &'s Tree, value: &Val) -> Result<Vec<Val>, Stop>
         ensures { IfOk result (λ paths. FindsPaths self.now (named tree.now) (view value.now) (map view paths.items)) }
@@ -102,13 +94,9 @@ impl<'s> Context<'s> {
             return Err(Stop::Unknown);
         }
         let mut changed = value.copy()?;
-        match self.change_each(paths, update, &mut changed) {
-            Ok(()) => {
-                *value = changed;
-                Ok(())
-            }
-            Err(stop) => Err(stop),
-        }
+        self.change_each(paths, update, &mut changed)?;
+        *value = changed;
+        Ok(())
     }
 
     // One part after the other. The parts at the listed paths are deleted at the end.
@@ -119,10 +107,7 @@ impl<'s> Context<'s> {
     {
         let mut without = Vec::new(self.alloc);
         for path in paths {
-            match self.change_part(path, update, value, &mut without) {
-                Ok(()) => {}
-                Err(stop) => return Err(stop),
-            }
+            self.change_part(path, update, value, &mut without)?;
         }
         delete_listed(self.alloc, value, without)
     }
@@ -198,6 +183,29 @@ impl<'s> Context<'s> {
             Err(Stop::NoMemory) => Err(Stop::NoMemory),
             Err(Stop::Unknown) => Err(Stop::Unknown),
         }
+    }
+}
+
+/// The two filters of an update `f |= g`, if a filter is one.
+pub fn filters_of_update(tree: &Tree) -> Option<(&Tree, &Tree)>
+    ensures { IfSome result (λ r. named tree.now ≡ modify (named r.0.now) (named r.1.now)) }
+{
+    match tree {
+        Tree::Update(_, filters) => {
+            let (paths, update) = both(&**filters)?;
+            Some((paths, update))
+        }
+        _ => None,
+    }
+}
+
+// The two trees of a list.
+fn both(trees: &[Tree]) -> Option<(&Tree, &Tree)>
+    ensures { IfSome result (λ r. trees.now ≡ r.0.now ∷ r.1.now ∷ []) }
+{
+    match trees {
+        [first, second] => Some((first, second)),
+        _ => None,
     }
 }
 

@@ -4,6 +4,7 @@ pub mod Walks
 pub mod Texts
 pub mod Chaining
 pub mod Continuing
+pub mod Copying
 pub mod Extending
 pub mod Cells
 pub mod Ranges

@@ -25,6 +25,25 @@ pub enum Binding<'p> {
     Label(&'p String, u32),
 }
 
+impl<'p> Binding<'p> {
+    ghost use Rattle.std.specs.Prelude.{◌≡◌, List, IfOk};
+    ghost use Rattle.jq_meaning.specs.Env.{Env};
+    ghost use Rattle.jq_state.specs.Nodes.{BindingFits, binding_in};
+
+    /// The same binding. It fails only if the reference count of a value is at its maximum.
+    fn copy(&self) -> Result<Binding<'p>, NoMemory>
+        ensures same { IfOk result (λ b. (envs : List Env) → binding_in envs b ≡ binding_in envs self.now) }
+        ensures fits { IfOk result (λ b. (count : ℕ) → BindingFits count self.now → BindingFits count b) }
+    {
+        match self {
+            Binding::Value(name, value) => Ok(Binding::Value(*name, value.copy()?)),
+            Binding::Function(function) => Ok(Binding::Function(*function)),
+            Binding::Closure(name, tree, env) => Ok(Binding::Closure(*name, *tree, *env)),
+            Binding::Label(name, level) => Ok(Binding::Label(*name, *level)),
+        }
+    }
+}
+
 /// A binding with the index of the environment outside of it.
 #[derive(Drop)]
 pub struct Node<'p> {
@@ -65,6 +84,20 @@ impl<'p> Nodes<'p> {
             program,
             nodes: Vec::new(alloc),
         })
+    }
+
+    /// The same environments, each binding copied. It fails also if the reference count of a value is at its maximum.
+    pub fn copy(&self, alloc: Global) -> Result<Nodes<'p>, NoMemory>
+        ensures count { IfOk result (λ n. count_of n ≡ count_of self.now) }
+        ensures envs { IfOk result (λ n. (inputs : Run Value) (i : ℕ) → i < count_of self.now → env_at (envs_of inputs n) i ≡ env_at (envs_of inputs self.now) i) }
+    {
+        let mut copy = Nodes::new(alloc, self.program)?;
+        self.program_comes_first();
+        copy.program_comes_first();
+        for node in self.nodes.as_slice() {
+            copy.push(node.binding.copy()?, node.outer)?;
+        }
+        Ok(copy)
     }
 
     /// The number of environments. Each smaller number is the index of one.

@@ -65,12 +65,21 @@ impl<'p> State<'p> {
         ensures forks { IfOk result (λ s. (inputs : Run Value) → forks_in inputs s ≡ []) }
     {
         let nodes = Nodes::new(alloc, program)?;
-        Ok(State {
+        Ok(State::over(alloc, nodes))
+    }
+
+    /// A state in these environments, with no frame and no fork point.
+    pub fn over(alloc: Global, nodes: Nodes<'p>) -> State<'p>
+        ensures nodes { result.nodes ≡ nodes.entry }
+        ensures frames { (inputs : Run Value) → frames_in inputs result ≡ [] }
+        ensures forks { (inputs : Run Value) → forks_in inputs result ≡ [] }
+    {
+        State {
             nodes,
             frames: Frames::new(alloc),
             forks: Vec::new(alloc),
             top: 0,
-        })
+        }
     }
 
     /// Adds a binding to an environment, and returns the index of the environment that this makes. Out of memory also if there

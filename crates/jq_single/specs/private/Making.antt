@@ -7,7 +7,7 @@ use Rattle.jv_data.specs.declared.containers.objects.Object.{Object}
 use Rattle.jv_data.specs.declared.containers.texts.SharedText.{SharedText}
 use Rattle.jv_data.specs.declared.values.Val.{Val}
 use Rattle.jq_tree.specs.Tree.{Name, Tree, Entry, Entries, Pieces, more_entries}
-use Rattle.jq_meaning.specs.Continuations.{on_entry, with_key}
+use Rattle.jq_meaning.specs.Continuations.{on_entry}
 use Rattle.jq_meaning.specs.Meaning.{below, entries_with, pieces_with}
 use Rattle.jq_meaning.specs.Runs.{Item, plain, Run, one, bind}
 use Rattle.jq_single.specs.Single.{Comes}
@@ -31,12 +31,9 @@ abbrev pub AddsEntry : Context → Entry → (made : Members) → Value → Resu
 AddsEntry p e made v result =
     (inputs : Run Value) (level : ℕ) (es : Entries) → Adds result (entries_in p inputs level es v) (entries_in p inputs level (more_entries e es) v made)
 
--- The same where the key is known, and where it was computed.
+-- The same where the key is known.
 abbrev pub AddsMember : Context → (key : List ℕ) → (filter : Tree) → (made : Members) → Value → Result (Object Val) Stop → Type 0
 AddsMember p key t made v result = (inputs : Run Value) (level : ℕ) (later : Members → Run Item) → Adds result later (bind (run p inputs level t (plain v)) (on_entry later made key))
-
-abbrev pub AddsKeyed : Context → (key : Value) → (filter : Tree) → (made : Members) → Value → Result (Object Val) Stop → Type 0
-AddsKeyed p key t made v result = (inputs : Run Value) (level : ℕ) (later : Members → Run Item) → Adds result later (with_key (run p inputs level t (plain v)) later made key)
 
 -- ---- strings
 

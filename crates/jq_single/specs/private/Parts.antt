@@ -38,12 +38,6 @@ ChangesTo p t v w result = (inputs : Run Value) (level : ℕ) → Changed result
 abbrev pub Follows : Context → Tree → Value → (Item → Run Item) → Result Val Stop → Type 0
 Follows p t v next result = (inputs : Run Value) (level : ℕ) → Answers result (bind (run p inputs level t (plain v)) next)
 
--- The runs of two trees on a value, whatever is done with each two outputs.
-abbrev pub GetsTwo : Context → (first second : Tree) → Value → Result (Val × Val) Stop → Type 0
-GetsTwo p t u v result =
-    (inputs : Run Value) (level : ℕ) (g : Item → Item → Run Item)
-    → Comes (λ two. g (plain (view two.0)) (plain (view two.1))) result (bind (run p inputs level t (plain v)) (λ x. bind (run p inputs level u (plain v)) (g x)))
-
 -- `or` if true decides, and else `and`.
 abbrev pub decided : (by : Bool) → (left right : Tree) → Tree
 decided true t u = disjunction t u

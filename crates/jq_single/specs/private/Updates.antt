@@ -1,10 +1,10 @@
 -- The results of the steps of an update.
-use Rattle.std.specs.Prelude.{◌≡◌, ℕ, suc, List, [], map, Result}
+use Rattle.std.specs.Prelude.{◌≡◌, ℕ, suc, List, [], ◌∷◌, map, Result}
 use Rattle.jv_data.specs.Value.{Value, array, items_of}
 use Rattle.jv_data.specs.View.{view}
 use Rattle.jv_data.specs.declared.values.Val.{Val}
 use Rattle.jq_tree.specs.Tree.{Tree}
-use Rattle.jq_meaning.specs.Runs.{Item, Run, Done, plain, located, one, gathered, paths_in}
+use Rattle.jq_meaning.specs.Runs.{Item, Run, Done, ended, plain, located, one, paths_in, value_in}
 use Rattle.jq_meaning.specs.laws.Updating.{turn_of, turns, updated}
 use Rattle.jq_single.specs.Single.{Changed}
 use Rattle.jq_single.specs.declared.contexts.Context.{Context}
@@ -26,7 +26,7 @@ part_run p inputs level t part = run p inputs (suc level) t (plain part)
 
 -- These are all paths of a tree into a value.
 abbrev pub FindsPaths : Context → Tree → Value → List Value → Type 0
-FindsPaths p t v paths = (inputs : Run Value) (level : ℕ) → gathered (path_run p inputs level t v) ≡ one (plain (array (items_of paths)))
+FindsPaths p t v ps = (inputs : Run Value) (level : ℕ) → let r = path_run p inputs level t v in (map value_in r.items ≡ ps) × (r.ending ≡ Done)
 
 -- A turn at a path changes the value, and the list of the paths to delete, whatever is done with them.
 abbrev pub TakesTurn : {A : Type 0} → Context → (update : Tree) → (path v ds w es : Value) → Result A Stop → Type 0
@@ -42,3 +42,13 @@ TakesTurns p u paths v w result =
 abbrev pub ChangesParts : {A : Type 0} → Context → (paths update : Tree) → (before later : Value) → Result A Stop → Type 0
 ChangesParts p t u v w result =
     (inputs : Run Value) (level : ℕ) → Changed result w (updated level (path_run p inputs level t v) (part_run p inputs level u) (plain v))
+
+-- ---- the first output, which is the only one that an update uses
+
+-- The first output of a run alone. A run without output is its ending.
+abbrev pub first_alone : Run Item → Run Item
+first_alone r = elim r.items [ [] ↦ ended r.ending | x ∷ xs ↦ one x ]
+
+-- The first output of a tree on a value replaces it.
+abbrev pub ChangesToFirst : {A : Type 0} → Context → Tree → (before later : Value) → Result A Stop → Type 0
+ChangesToFirst p t v w result = (inputs : Run Value) (level : ℕ) → Changed result w (first_alone (run p inputs level t (plain v)))

@@ -26,7 +26,7 @@ returns-in-Ok c =
     let m : meaning q.depth t (env_at (envs_in inputs s) q.env) q.level x ≡ one y =
     subst (λ (ns : Nodes). meaning q.depth t (env_at (envs_of inputs ns) q.env) q.level x ≡ one (plain (view c.change.new.value))) c.nodes.ensures (c.in-Ok.ensures.runs inputs q.level)
     ∙ ap one (sym c.plain.ensures) in
-    later_leads inputs (at_filter inputs s t q x) (state (give y) (frames_in inputs s) (forks_in inputs s)) c.hand_on.new.state c.in_ok-progress-in-Ok.progress (by_run (gives y m) here)
+    later_leads inputs (at_filter inputs s t q x) (state (give y) (frames_in inputs s) (forks_in inputs s)) c.give.new.state c.in_ok-progress-in-Ok.progress (by_run (gives y m) here)
     (c.in_ok-progress-in-Ok.ensures inputs)
 
 pub returns-in-Err-Raised : goal.returns-in-Err-Raised

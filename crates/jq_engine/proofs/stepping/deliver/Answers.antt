@@ -32,5 +32,5 @@ pub returns : goal.returns
 returns c =
     let inputs = inputs_of c.args.inputs.now in
     let x = item_of c.args.item in
-    IfOk-weaker c.hand_on.result _ _
-    (λ r g. later_leads inputs (at_item inputs c.args.state.now x) (at_item inputs c.pass_through.new.state x) c.hand_on.new.state r (c.pass_through.ensures inputs x) (g inputs)) c.hand_on.ensures
+    IfOk-weaker c.give.result _ _
+    (λ r g. later_leads inputs (at_item inputs c.args.state.now x) (at_item inputs c.pass_through.new.state x) c.give.new.state r (c.pass_through.ensures inputs x) (g inputs)) c.give.ensures

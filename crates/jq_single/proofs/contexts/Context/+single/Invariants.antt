@@ -21,9 +21,6 @@ decreases-get l = 32 * l.self.now.fuel
 abbrev pub decreases-get_part : goal.decreases-get_part
 decreases-get_part l = 32 * l.self.now.fuel + 1
 
-abbrev pub decreases-get_two : goal.decreases-get_two
-decreases-get_two l = 32 * l.self.now.fuel + 1
-
 abbrev pub decreases-get_made : goal.decreases-get_made
 decreases-get_made l = 32 * l.self.now.fuel + 13
 
@@ -200,9 +197,6 @@ decreases-give_on l = 32 * l.self.now.fuel + 4
 
 abbrev pub decreases-give_step : goal.decreases-give_step
 decreases-give_step l = 32 * l.self.now.fuel + 3
-
-abbrev pub decreases-give_outputs : goal.decreases-give_outputs
-decreases-give_outputs l = 32 * l.self.now.fuel + 7
 
 abbrev pub decreases-give_all : goal.decreases-give_all
 decreases-give_all l = 32 * l.self.now.fuel + 6

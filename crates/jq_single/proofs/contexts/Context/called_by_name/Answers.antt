@@ -16,7 +16,7 @@ returns-in-Function c = λ inputs level x.
     let f = c.in-Function.function.now in
     let own = scope_env inputs c.in-Function.own in
     finds p inputs level (name_of c.args.name.now) c.args.arguments.now (found f own) x (c.in-Function.ensures inputs)
-    ∙ ap (λ ps. below p.depth (named f.body) (body_env ps c.args.arguments.now (scope_env inputs p.scope.now) own) level x) (sym c.as_slice.ensures.value)
+    ∙ ap (λ ps. below p.depth (named f.body) (body_env ps c.args.arguments.now (scope_env inputs p.scope.now) own) level x) (sym c.as_slice-parameters.ensures.value)
 
 pub returns-in-Closure : goal.returns-in-Closure
 returns-in-Closure c = λ inputs level x.

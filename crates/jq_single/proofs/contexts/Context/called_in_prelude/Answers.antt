@@ -10,4 +10,4 @@ returns-in-Function c = λ inputs level x.
     let p = c.args.self.now in
     let f = c.in-Function.function.now in
     prelude_runs p inputs level (name_of c.args.name.now) c.args.arguments.now f c.in-Function.own x (c.in-Function.ensures inputs)
-    ∙ ap (λ ps. below p.depth (named f.body) (body_env ps c.args.arguments.now (scope_env inputs p.scope.now) (scope_env inputs c.in-Function.own)) level x) (sym c.as_slice.ensures.value)
+    ∙ ap (λ ps. below p.depth (named f.body) (body_env ps c.args.arguments.now (scope_env inputs p.scope.now) (scope_env inputs c.in-Function.own)) level x) (sym c.as_slice-parameters.ensures.value)
