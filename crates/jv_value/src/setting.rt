@@ -1,5 +1,5 @@
 // A value with another at a path. A value that is not shared is changed in place; of a shared one, one level is copied.
-ghost use Rattle.std.specs.Prelude.{◌≡◌, ◌<◌, ◌+◌, IfErr, IfOk, MatchResult, Ok, OnOk, length, map, slice_set, unwrap_or};
+ghost use Rattle.std.specs.Prelude.{◌≡◌, ◌<◌, ◌+◌, ◌∷◌, [], IfErr, IfOk, MatchResult, Ok, OnOk, length, map, slice_set, unwrap_or};
 ghost use Rattle.std.specs.Str.{chars};
 ghost use Rattle.jv_data.specs.Fails.{AnswersAs, FailsAs};
 ghost use Rattle.jv_data.specs.Held.{members_in, values_in};
@@ -41,6 +41,11 @@ pub enum Frame {
 pub fn setpath(alloc: Global, value: Val, path: &[Val], new: Val) -> Result<Val, Fail>
     ensures { AnswersAs result (setpath_of (view value) (map view path.now) (view new)) }
 {
+    if let Some((key, rest)) = path.split_first() {
+        if rest.is_empty() {
+            return set_part(alloc, value, key, new);
+        }
+    }
     let mut part = value;
     let mut frames = Vec::new(alloc);
     for key in path {
@@ -49,6 +54,14 @@ pub fn setpath(alloc: Global, value: Val, path: &[Val], new: Val) -> Result<Val,
         part = inner;
     }
     put_all_back(alloc, frames, new)
+}
+
+// The value with `new` at one key.
+fn set_part(alloc: Global, value: Val, key: &Val, new: Val) -> Result<Val, Fail>
+    ensures { AnswersAs result (setpath_of (view value) (view key.now ∷ []) (view new)) }
+{
+    let (_old, frame) = take_part(alloc, value, key)?;
+    put_back(alloc, frame, new)
 }
 
 // The frames' parts put back, from the last frame to the first.
