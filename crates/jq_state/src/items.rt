@@ -90,6 +90,15 @@ impl Item {
         }
     }
 
+    /// A value with an empty path: the input of `path(f)`.
+    pub fn start(alloc: Global, value: &Val) -> Result<Item, NoMemory>
+        ensures { IfOk result (λ x. item_of x ≡ located (view value.now) []) }
+    {
+        let value = value.copy()?;
+        let path = Path::empty(alloc)?;
+        Ok(Item { value, path })
+    }
+
     /// An equal item. Nothing is allocated.
     pub fn copy(&self) -> Result<Item, NoMemory>
         ensures { IfOk result (λ x. item_of x ≡ item_of self.now) }
