@@ -43,11 +43,16 @@ import time
 import tomllib
 
 ROOT = pathlib.Path(__file__).resolve().parent.parent
+sys.path.insert(0, str(ROOT / "tools"))
+import build  # noqa: E402
+
 STREAMS = ("stdin", "stdout", "stderr")
 KEYS = {"name", "args", "args_hex", "files", "status", "closed"} | {
     stream + suffix for stream in STREAMS for suffix in ("", "_hex", "_path")
 }
 SECONDS = 120
+# Memory for a crate of the gate, in bytes.
+LANE = 5_000_000_000
 DOCUMENTS = ("README.md", "docs/MANUAL.md", "docs/SESSION.md", "docs/DIFFERENCES.md", "docs/FROM_JQ.md", "docs/LONG_RUNS.md")
 PROGRAMS = ("documents.py", "program.py", "live.py", "memory.py", "hostile.py", "release.py", "pages.py", "contracts.py")
 
@@ -248,10 +253,20 @@ def run_program_tests(name, *words):
     return passed, failed or (1 if ran.returncode or not counted else 0)
 
 
+def lanes():
+    """How many crates `rt ci` proves side by side: RT_JOBS, else one a processor, and as many as memory holds.
+
+    Left to itself `rt ci` allows each crate more than twice the memory that it takes, so that a processor in four has nothing to do.
+    """
+    kit = build.load_kit()
+    return os.environ.get("RT_JOBS") or str(max(1, min(kit.processors(), kit.free() // LANE)))
+
+
 def run_gate():
     """What `rt ci` counted, and one more failure where it failed without counting one. Tells how long it took."""
     began, used = time.monotonic(), os.times()
-    gate = subprocess.Popen(["rt", "ci"], cwd=ROOT, stdout=subprocess.PIPE, stderr=subprocess.STDOUT)
+    surroundings = {**os.environ, "RT_JOBS": lanes()}
+    gate = subprocess.Popen(["rt", "ci"], cwd=ROOT, env=surroundings, stdout=subprocess.PIPE, stderr=subprocess.STDOUT)
     last = ""
     for line in gate.stdout:
         last = line.decode(errors="replace").strip() or last
