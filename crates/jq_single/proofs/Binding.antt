@@ -198,7 +198,7 @@ stops_first make s us r q x g e h p =
 
 -- ---- variables
 
-items-same : {A B : Type 0} (xs : List A) (e : Ending) (f g : A → Run B) → ((x : A) → f x ≡ g x) → bind_items xs e f ≡ bind_items xs e g
+pub items-same : {A B : Type 0} (xs : List A) (e : Ending) (f g : A → Run B) → ((x : A) → f x ≡ g x) → bind_items xs e f ≡ bind_items xs e g
 items-same [] e f g h = refl
 items-same (x ∷ xs) e f g h = ap (λ q. then_run q (bind_items xs e f)) (h x) ∙ ap (then_run (g x)) (items-same xs e f g h)
 

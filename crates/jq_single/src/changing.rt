@@ -130,21 +130,11 @@ impl<'s> Context<'s> {
             return Ok(());
         }
         let second = self.get_part(right, value)?;
-        self.change_operand(left, value)?;
-        operate_in_place(self.alloc, operator, value, &second)
-    }
-
-    // An operand that is often the input.
-    #[cycle(single)]
-    #[inline(always)]
-    fn change_operand(&self, tree: &'s Tree, value: &mut Val) -> Result<(), Stop>
-        ensures runs { ChangesTo self.now (named tree.now) (view value.old) (view value.new) result }
-        ensures keeps { Keeps result (view value.old) (view value.new) }
-    {
-        match tree {
-            Tree::Identity => Ok(()),
-            _ => self.change(tree, value),
+        if let Tree::Identity = left {
+            return operate_in_place(self.alloc, operator, value, &second);
         }
+        self.change(left, value)?;
+        operate_in_place(self.alloc, operator, value, &second)
     }
 
     // `if f then g else h end`.
@@ -222,20 +212,21 @@ impl<'s> Context<'s> {
         ensures runs { ChangesTo self.now (named tree.now) (view value.old) (view value.new) result }
         ensures keeps { Keeps result (view value.old) (view value.new) }
     {
-        match self.called(tree) {
+        let called = self.called(tree);
+        match &called {
             Called::Body(body, parameters, own, arguments) => {
                 if self.depth == 0 {
                     return Err(Stop::Unknown);
                 }
-                let scope = scope_of_call(&own, &*parameters, &*arguments, &*self.scope);
+                let scope = scope_of_call(own, &**parameters, &**arguments, &*self.scope);
                 let inside = Context {
                     scope: &scope,
                     depth: self.depth - 1,
                     ..*self
                 };
-                inside.change(&*body, value)
+                inside.change(&**body, value)
             }
-            Called::Builtin(builtin, arguments) => self.change_builtin(builtin, arguments, value),
+            Called::Builtin(builtin, arguments) => self.change_builtin(*builtin, *arguments, value),
             Called::Unknown => Err(Stop::Unknown),
         }
     }

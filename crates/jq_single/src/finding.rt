@@ -13,8 +13,7 @@ ghost use Rattle.jq_meaning.specs.updates.Known.{HasModify};
 ghost use Rattle.jq_operations.specs.Callees.{CalleeFits, callee_in};
 ghost use Rattle.jv_data.specs.Kind.{kind_name};
 ghost use Rattle.jv_data.specs.Shared.{text_in};
-ghost use Rattle.jq_ast.specs.Leaves.{literal_of, operator_of};
-ghost use Rattle.jq_meaning.specs.Continuations.{value_of_literal};
+ghost use Rattle.jq_ast.specs.Leaves.{operator_of};
 ghost use Rattle.jq_natives.specs.Answers.{is_same, yes_or_no};
 ghost use Rattle.jq_tree.specs.Tree as form;
 ghost use Rattle.jq_meaning.specs.Env as meaning;
@@ -23,7 +22,7 @@ ghost use Rattle.jq_meaning.specs.Steps as steps;
 
 use crate::contexts::Context;
 use crate::scopes::{Outside, Scope};
-use jq_ast::{Function, Literal, Name, Operator, Tree};
+use jq_ast::{Function, Name, Operator, Tree};
 use jq_meaning::updates::the_preludes_update_stays;
 use jq_operations::{Builtin, Callee, builtin_named, find_callee, find_in_prelude, find_value};
 use jq_state::environments::Nodes;
@@ -123,13 +122,11 @@ impl<'s> Context<'s> {
         let Tree::Literal(constant) = right else {
             return None;
         };
-        let Some(name) = name_alone(left) else {
-            return None;
-        };
-        if is_type(self.scope, name) {
-            kind_told(operator, value, constant_of(constant))
-        } else {
-            None
+        match name_alone(left) {
+            Some(name) if is_type(self.scope, name) => {
+                kind_told(operator, value, constant.value())
+            }
+            _ => None,
         }
     }
 }
@@ -138,26 +135,27 @@ impl<'s> Context<'s> {
 fn callee_of<'s>(scope: &Scope<'s>, name: &Name, count: usize) -> Found<'s>
     ensures { (inputs : Run Value) → found_in inputs result ≡ meaning.find_callee (name_of name.now) count (scope_env inputs scope.now) }
 {
-    match scope {
-        Scope::Run(outside) => {
-            let nodes = outside.nodes;
-            of_the_run(nodes, find_callee(nodes, name, count, outside.env))
-        }
-        Scope::Value(outer, _, _) => callee_of(outer, name, count),
-        Scope::Function(outer, function) => {
-            if is_function(function, name, count) {
-                Found::Function(function, *scope)
-            } else {
-                callee_of(outer, name, count)
+    let mut scope = scope;
+    'scopes: loop {
+        match scope {
+            Scope::Run(outside) => {
+                let nodes = outside.nodes;
+                return of_the_run(nodes, find_callee(nodes, name, count, outside.env));
             }
-        }
-        Scope::Call(own, parameters, arguments, caller) => {
-            if count > 0 {
-                return callee_of(own, name, count);
+            Scope::Value(outer, _, _) => scope = outer,
+            Scope::Function(outer, function) => {
+                if is_function(function, name, count) {
+                    return Found::Function(function, *scope);
+                }
+                scope = outer;
             }
-            match argument_of(parameters, arguments, name, None) {
-                Some(argument) => Found::Closure(argument, **caller),
-                None => callee_of(own, name, count),
+            Scope::Call(own, parameters, arguments, caller) => {
+                if count == 0 {
+                    if let Some(argument) = argument_of(parameters, arguments, name, None) {
+                        return Found::Closure(argument, **caller);
+                    }
+                }
+                scope = own;
             }
         }
     }
@@ -260,27 +258,12 @@ fn name_alone(tree: &Tree) -> Option<&Name>
     }
 }
 
-// The value of a constant.
-#[inline(always)]
-fn constant_of(constant: &Literal) -> &Val
-    ensures { view result.now ≡ value_of_literal (literal_of constant.now) }
-{
-    constant.value()
-}
-
-// Whether a name is that of the native `type`, without arguments.
+// Whether a name is that of the native `type`: no function and no parameter has this name and no arguments.
 fn is_type(scope: &Scope<'_>, name: &Name) -> bool
     ensures name { IsTrue result → name_of name.now ≡ codes "type" }
     ensures unbound { IsTrue result → (inputs : Run Value) → meaning.find_callee (name_of name.now) 0 (scope_env inputs scope.now) ≡ meaning.no_callee }
 {
-    name.text.as_str() == "type" && is_unbound(scope, name)
-}
-
-// That no function and no parameter has this name and no arguments.
-fn is_unbound(scope: &Scope<'_>, name: &Name) -> bool
-    ensures { IsTrue result → (inputs : Run Value) → meaning.find_callee (name_of name.now) 0 (scope_env inputs scope.now) ≡ meaning.no_callee }
-{
-    matches!(callee_of(scope, name, 0), Found::Nothing)
+    name.text.as_str() == "type" && matches!(callee_of(scope, name, 0), Found::Nothing)
 }
 
 // The result of an operator on the name of a value's kind and a text, if it is `==` or `!=`.

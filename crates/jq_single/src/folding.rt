@@ -10,7 +10,7 @@ ghost use Rattle.jq_single.specs.private.Gathering.{FoldsAs, FoldsFrom, GathersT
 ghost use Rattle.jq_single.specs.private.Parts.{ChangesTo};
 
 use crate::contexts::Context;
-use crate::readings::{copies, pays_for_copy};
+use crate::readings::{is_cheap, pays_for_copy};
 use crate::rests::Rest;
 use crate::scopes::Scope;
 use crate::stops::Stop;
@@ -40,14 +40,15 @@ impl<'s> Context<'s> {
             return Err(Stop::Unknown);
         };
         match start {
-            Tree::Identity if !self.kept => self.change_fold(source, name, start, update, value),
+            Tree::Identity => self.change_fold(source, name, start, update, value),
             _ => self.change_from(source, name, start, update, value),
         }
     }
 
-    // The fold of the input. With one output of the source the input is changed in place; with more a copy of it is, since a
-    // later step may be one that is not run at once. A source that is run only to find this out has half of the fuel, so that
-    // folds in the sources of folds are not run more often at each level.
+    // The fold of the input. With one output of the source the input is changed in place. With more a copy of it is, since a
+    // later step may be one that is not run at once; the machine runs the filter if the input is large and the outputs are few.
+    // A source that is run only to find this out has half of the fuel, so that folds in the sources of folds are not run more
+    // often at each level.
     #[cycle(single)]
     #[inline(never)]
     fn change_fold(
@@ -61,22 +62,29 @@ impl<'s> Context<'s> {
         ensures runs { named start.now ≡ form.identity → FoldsAs self.now (named source.now) (text_of name.now) (named start.now) (named update.now) (view value.old) (view value.new) result }
         ensures keeps { Keeps result (view value.old) (view value.new) }
     {
+        let cheap = is_cheap(value);
+        let most = if cheap { 2 } else { MOST };
         let mut values = Vec::new(self.alloc);
         let tried = Context {
             fuel: self.fuel / 2,
             ..*self
         };
-        match tried.collect(source, value, 2, &mut values) {
+        match tried.collect(source, value, most, &mut values) {
             Ok(()) => match values.as_slice() {
-                [single] => self.step(name, update, single, value),
-                _ => self.change_from(source, name, start, update, value),
+                [single] if !self.kept => self.step(name, update, single, value),
+                several if cheap || pays_for_copy(value, several) => {
+                    self.change_from(source, name, start, update, value)
+                }
+                _ => Err(Stop::Unknown),
             },
-            Err(_stop) => self.change_from(source, name, start, update, value),
+            Err(_stop) if cheap || values.len() >= most => {
+                self.change_from(source, name, start, update, value)
+            }
+            Err(_stop) => Err(Stop::Unknown),
         }
     }
 
-    // The fold of a state that is made first. If the state would be a copy of a large input, and the source has few outputs, the
-    // machine runs the filter.
+    // The fold of a state that is made first.
     #[cycle(single)]
     #[inline(never)]
     fn change_from(
@@ -90,26 +98,8 @@ impl<'s> Context<'s> {
         ensures runs { FoldsAs self.now (named source.now) (text_of name.now) (named start.now) (named update.now) (view value.old) (view value.new) result }
         ensures keeps { Keeps result (view value.old) (view value.new) }
     {
-        if copies(start, value) && !self.may_copy(source, value) {
-            return Err(Stop::Unknown);
-        }
         let state = self.get(start, value)?;
         self.fold(source, name, state, update, value)
-    }
-
-    // Whether a source has so many outputs that a fold may change a copy of its input.
-    #[cycle(single)]
-    #[inline(never)]
-    fn may_copy(&self, source: &'s Tree, value: &Val) -> bool {
-        let mut values = Vec::new(self.alloc);
-        let tried = Context {
-            fuel: self.fuel / 2,
-            ..*self
-        };
-        match tried.collect(source, value, MOST, &mut values) {
-            Ok(()) => pays_for_copy(value, values.as_slice()),
-            Err(_stop) => values.len() >= MOST,
-        }
     }
 
     // The last state, from a known state, replaces the input. The list has one value, the state, which each output of the source

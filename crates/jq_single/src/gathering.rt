@@ -1,5 +1,5 @@
 // The outputs of a filter, each passed on to the rest of the filter: paths, and the numbers of `range(f; g)`, too. No list of them is kept.
-ghost use Rattle.std.specs.Prelude.{map, ◌≡◌, ◌++◌, ◌∷◌, [], MatchOption, OnOk, ℕ, List, IfOk};
+ghost use Rattle.std.specs.Prelude.{map, ◌≡◌, ◌++◌, ◌∷◌, [], MatchOption, OnOk, ℕ, List};
 ghost use Rattle.jq_ast.specs.Named.{named, named_as_pattern};
 ghost use Rattle.jq_tree.specs.Tree.{trees_of};
 ghost use Rattle.jq_operations.specs.Language.{meaning_of};
@@ -10,7 +10,7 @@ ghost use Rattle.jv_data.specs.Value.{Value};
 ghost use Rattle.jv_data.specs.View.{view};
 ghost use Rattle.jq_meaning.specs.machine.Operations.{result_of};
 ghost use Rattle.jq_state.specs.Steps.{operation_of};
-ghost use Rattle.jq_meaning.specs.Runs.{Run, before, none, one, value_in, located, plain};
+ghost use Rattle.jq_meaning.specs.Runs.{Run, before, none, one, value_in, plain};
 ghost use Rattle.jq_single.specs.Single.{Ends};
 ghost use Rattle.jq_tree.specs.Tree as form;
 ghost use Rattle.jq_meaning.specs.Runs as runs;
@@ -25,11 +25,10 @@ use crate::stops::Stop;
 use jq_ast::{Function, Key, Pattern, Tree};
 use jq_natives::truth;
 use jq_operations::{Builtin, Outputs, run};
-use jq_state::items::{Item, Path};
+use jq_state::items::Item;
 use jq_state::numbers::{is_before, number_after};
 use jq_state::steps::Operation;
 use jv_data::{NoMemory, Val};
-use std::alloc::Global;
 
 /// Items that are given one by one: those of a vector, the last one first, or whole numbers.
 #[derive(Drop)]
@@ -77,10 +76,7 @@ impl<'s> Context<'s> {
             Tree::Index(target, key, guarded) if item.path.is_present() => {
                 inside.gather_index(target, key, *guarded, item, rest, into)
             }
-            Tree::Pipe(first, second) => {
-                let next = Rest::Then(&**second, &inside, &*rest);
-                (&inside).gather(&**first, item, &next, into)
-            }
+            Tree::Pipe(first, second) => inside.gather_pipe(first, second, item, rest, into),
             Tree::Comma(first, second) => inside.gather_comma(first, second, item, rest, into),
             Tree::Choice(condition, holds, fails) => {
                 inside.gather_choice(condition, holds, fails, item, rest, into)
@@ -137,6 +133,38 @@ impl<'s> Context<'s> {
                 self.give(output, rest, into)
             }
             Err(stop) => ended(stop),
+        }
+    }
+
+    // `f | g`. If `g` calls a body, it is found once for all outputs of `f`.
+    #[cycle(single)]
+    #[inline(never)]
+    fn gather_pipe(
+        &self,
+        first: &'s Tree,
+        second: &'s Tree,
+        item: &Item,
+        rest: &Rest<'s>,
+        into: &mut Vec<Val>,
+    ) -> Result<(), Stop>
+        ensures { GathersOf self.now (form.pipe (named first.now) (named second.now)) (item_of item.now) rest.now result into.old.items into.new.items }
+    {
+        let called = self.called(second);
+        match &called {
+            Called::Body(body, parameters, own, arguments) if self.depth > 0 => {
+                let scope = scope_of_call(own, &**parameters, &**arguments, &*self.scope);
+                let inside = Context {
+                    scope: &scope,
+                    depth: self.depth - 1,
+                    ..*self
+                };
+                let next = Rest::Then(&**body, &inside, &*rest);
+                (&*self).gather(&*first, item, &next, into)
+            }
+            _ => {
+                let next = Rest::Then(&*second, &*self, &*rest);
+                (&*self).gather(&*first, item, &next, into)
+            }
         }
     }
 
@@ -240,21 +268,22 @@ impl<'s> Context<'s> {
     ) -> Result<(), Stop>
         ensures { GathersOf self.now (named tree.now) (item_of item.now) rest.now result into.old.items into.new.items }
     {
-        match self.called(tree) {
+        let called = self.called(tree);
+        match &called {
             Called::Body(body, parameters, own, arguments) => {
                 if self.depth == 0 {
                     return Err(Stop::Unknown);
                 }
-                let scope = scope_of_call(&own, &*parameters, &*arguments, &*self.scope);
+                let scope = scope_of_call(own, &**parameters, &**arguments, &*self.scope);
                 let inside = Context {
                     scope: &scope,
                     depth: self.depth - 1,
                     ..*self
                 };
-                inside.gather(&*body, item, &*rest, into)
+                inside.gather(&**body, item, &*rest, into)
             }
             Called::Builtin(builtin, arguments) => {
-                self.gather_builtin(builtin, arguments, item, rest, into)
+                self.gather_builtin(*builtin, *arguments, item, rest, into)
             }
             Called::Unknown => Err(Stop::Unknown),
         }
@@ -433,7 +462,7 @@ impl<'s> Context<'s> {
     {
         match arguments {
             [argument] => {
-                let start = start_at(self.alloc, value)?;
+                let start = Item::start(self.alloc, value)?;
                 let next = Rest::Path(&*rest);
                 (&*self).gather(&*argument, &start, &next, into)
             }
@@ -520,15 +549,6 @@ fn take_item(supply: &mut Supply) -> Option<Item>
         Supply::Items(items) => Some(items.pop()?),
         Supply::Numbers(numbers) => Some(Item::plain(take_number(numbers)?)),
     }
-}
-
-/// A value with an empty path.
-pub(crate) fn start_at(alloc: Global, value: &Val) -> Result<Item, NoMemory>
-    ensures { IfOk result (λ x. item_of x ≡ located (view value.now) []) }
-{
-    let value = value.copy()?;
-    let path = Path::empty(alloc)?;
-    Ok(Item { value, path })
 }
 
 // Takes the first number out.

@@ -1,5 +1,6 @@
 // The output of a filter on a value that is kept: forms that make a value from those of their parts, and copies that others change.
-ghost use Rattle.std.specs.Prelude.{ℕ, List, []};
+ghost use Rattle.std.specs.Prelude.{◌≡◌, ◌∷◌, ℕ, List, [], IfOk};
+ghost use Rattle.jv_data.specs.Value.{array, items_of};
 ghost use Rattle.jv_data.specs.View.{view};
 ghost use Rattle.jq_ast.specs.Leaves.{operator_of};
 ghost use Rattle.jq_ast.specs.Named.{named, name_of, named_entry};
@@ -24,7 +25,7 @@ use jq_natives::truth;
 use jq_operations::entries::with_member;
 use jq_operations::{Inserted, entry_key, key_error, literal, operated, slice_key, text_in_format};
 use jv_arith::neg;
-use jv_data::{Array, Fail, Object, SharedText, Val};
+use jv_data::{Array, Fail, NoMemory, Object, SharedText, Val};
 use jv_value::index;
 use std::alloc::Global;
 
@@ -202,6 +203,14 @@ impl<'s> Context<'s> {
     fn array(&self, filter: &'s Tree, value: &Val) -> Result<Val, Stop>
         ensures { RunsTo self.now (form.array (named filter.now)) (view value.now) result }
     {
+        if matches!(
+            filter,
+            Tree::Identity | Tree::Literal(_) | Tree::Variable(_)
+        ) {
+            if let Ok(item) = self.get_part(filter, value) {
+                return Ok(array_of_one(self.alloc, item)?);
+            }
+        }
         let mut items = Vec::new(self.alloc);
         self.collect(filter, value, usize::MAX, &mut items)?;
         Ok(Val::List(Array::from_vec(self.alloc, items)?))
@@ -385,6 +394,12 @@ impl<'s> Context<'s> {
         let found = self.get(filter, value)?;
         Ok(with_member(self.alloc, made, key, found)?)
     }
+}
+
+fn array_of_one(alloc: Global, item: Val) -> Result<Val, NoMemory>
+    ensures { IfOk result (λ v. view v ≡ array (items_of (view item ∷ []))) }
+{
+    Ok(Val::List(Array::from_vec(alloc, vec![in alloc; item]?)?))
 }
 
 // The part of a value at a key.

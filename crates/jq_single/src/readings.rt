@@ -16,7 +16,7 @@ const FOR_EACH: usize = 16;
 pub fn is_reading(tree: &Tree) -> bool {
     match tree {
         Tree::Binary(operator, _, _) => !matches!(operator, Operator::Plus | Operator::Times),
-        Tree::Reduce(_, _, start, _) => !is_identity(start),
+        Tree::Reduce(_, _, start, _) => !matches!(&**start, Tree::Identity),
         Tree::Field(_, _, _) | Tree::Index(_, _, _) | Tree::Slice(_, _, _, _) => true,
         Tree::And(_, _) | Tree::Or(_, _) | Tree::Negation(_) => true,
         Tree::Array(_) | Tree::Object(_) | Tree::Text(_, _, _) | Tree::Format(_) => true,
@@ -29,22 +29,13 @@ pub fn is_reading(tree: &Tree) -> bool {
 pub fn goes_over_all(tree: &Tree) -> bool {
     match tree {
         Tree::Choice(_, holds, fails) => goes_over_all(holds) && goes_over_all(fails),
-        Tree::Call(name, _) => is_over_all(name.text.as_str()),
+        // Functions of the prelude that make a new value or go over all parts of their input.
+        Tree::Call(name, _) => matches!(
+            name.text.as_str(),
+            "map" | "map_values" | "to_entries" | "from_entries" | "with_entries" | "walk"
+        ),
         _ => is_reading(tree),
     }
-}
-
-// Functions of the prelude that make a new value or go over all parts of their input.
-fn is_over_all(name: &str) -> bool {
-    matches!(
-        name,
-        "map" | "map_values" | "to_entries" | "from_entries" | "with_entries" | "walk"
-    )
-}
-
-/// Whether a filter returns its input, so that a change of its output would copy it.
-pub fn copies(tree: &Tree, input: &Val) -> bool {
-    is_identity(tree) && !is_cheap(input)
 }
 
 /// Whether a fold over some values changes a copy of its input in no more time than its steps take. The values are paths of
@@ -61,10 +52,6 @@ pub fn pays_for_copy(input: &Val, values: &[Val]) -> bool {
         [] => true,
         _ => false,
     }
-}
-
-fn is_identity(tree: &Tree) -> bool {
-    matches!(tree, Tree::Identity)
 }
 
 // The number of parts of the containers that a path goes through.

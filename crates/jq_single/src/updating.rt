@@ -1,8 +1,7 @@
 // Updates (`f |= g`): the paths of f are gathered once, and each part becomes the first output of g, the only one that counts.
-ghost use Rattle.std.specs.Prelude.{◌≡◌, ◌++◌, ◌∷◌, [], IfOk, IfSome, Ok, OnOk, length, map};
+ghost use Rattle.std.specs.Prelude.{◌≡◌, ◌++◌, ◌∷◌, [], IfOk, IfSome, OnOk, length, map};
 ghost use Rattle.jv_data.specs.Value.{Value};
 ghost use Rattle.jv_data.specs.View.{view};
-ghost use Rattle.jv_value.specs.GetPath.{getpath_of};
 ghost use Rattle.jq_natives.specs.declared.native.Native.TheVariants.{DelPaths, SetPath};
 ghost use Rattle.jq_ast.specs.Named.{named};
 ghost use Rattle.jq_tree.specs.WrittenOut.{modify};
@@ -15,13 +14,13 @@ ghost use Rattle.jq_tree.specs.Tree as form;
 use crate::changing::call_on;
 use crate::contexts::Context;
 use crate::finding::has_modify;
-use crate::gathering::start_at;
 use crate::readings::pays_for_copy;
 use crate::rests::Rest;
 use crate::stops::Stop;
 use jq_ast::Tree;
 use jq_meaning::updates::an_update_is_its_turns;
 use jq_natives::Native;
+use jq_state::items::Item;
 use jv_data::{Array, NoMemory, Val};
 use jv_value::getpath;
 use jv_value::laws::deleting_no_path_changes_nothing;
@@ -65,10 +64,15 @@ impl<'s> Context<'s> {
         };
         let found = found.as_slice();
         if found.len() == 1 && !self.kept {
-            self.change_each(found, update, value)
-        } else {
-            self.change_copied(found, update, value)
+            return self.change_each(found, update, value);
         }
+        if !pays_for_copy(value, found) {
+            return Err(Stop::Unknown);
+        }
+        let mut changed = value.copy()?;
+        self.change_each(found, update, &mut changed)?;
+        *value = changed;
+        Ok(())
     }
 
     /// The paths of a filter into a value.
@@ -76,27 +80,12 @@ impl<'s> Context<'s> {
     fn paths_of(&self, tree: &'s Tree, value: &Val) -> Result<Vec<Val>, Stop>
         ensures { IfOk result (λ paths. FindsPaths self.now (named tree.now) (view value.now) (map view paths.items)) }
     {
-        let start = start_at(self.alloc, value)?;
+        let start = Item::start(self.alloc, value)?;
         let end = Rest::End(MOST);
         let path = Rest::Path(&end);
         let mut paths = Vec::new(self.alloc);
         (&*self).gather(&*tree, &start, &path, &mut paths)?;
         Ok(paths)
-    }
-
-    // The parts at some paths, in a copy of the value.
-    #[cycle(single)]
-    fn change_copied(&self, paths: &[Val], update: &'s Tree, value: &mut Val) -> Result<(), Stop>
-        ensures runs { TakesTurns self.now (named update.now) (map view paths.now) (view value.old) (view value.new) result }
-        ensures keeps { Keeps result (view value.old) (view value.new) }
-    {
-        if !pays_for_copy(value, paths) {
-            return Err(Stop::Unknown);
-        }
-        let mut changed = value.copy()?;
-        self.change_each(paths, update, &mut changed)?;
-        *value = changed;
-        Ok(())
     }
 
     // One part after the other. The parts at the listed paths are deleted at the end.
@@ -127,15 +116,15 @@ impl<'s> Context<'s> {
         let Val::List(keys) = path else {
             return Err(Stop::Unknown);
         };
-        match part_under(self.alloc, value, keys.as_slice()) {
-            Some(mut part) => match self.change_first(update, &mut part) {
-                Ok(()) => put_at(self.alloc, value, path, part),
-                Err(Stop::Nothing) => Ok(add_copy(without, path)?),
-                Err(Stop::Raised(error)) => Err(Stop::Raised(error)),
-                Err(Stop::NoMemory) => Err(Stop::NoMemory),
-                Err(Stop::Unknown) => Err(Stop::Unknown),
-            },
-            None => Err(Stop::Unknown),
+        let Ok(mut part) = getpath(self.alloc, value, keys.as_slice()) else {
+            return Err(Stop::Unknown);
+        };
+        match self.change_first(update, &mut part) {
+            Ok(()) => put_at(self.alloc, value, path, part),
+            Err(Stop::Nothing) => Ok(add_copy(without, path)?),
+            Err(Stop::Raised(error)) => Err(Stop::Raised(error)),
+            Err(Stop::NoMemory) => Err(Stop::NoMemory),
+            Err(Stop::Unknown) => Err(Stop::Unknown),
         }
     }
 
@@ -192,30 +181,10 @@ pub fn filters_of_update(tree: &Tree) -> Option<(&Tree, &Tree)>
 {
     match tree {
         Tree::Update(_, filters) => {
-            let (paths, update) = both(&**filters)?;
+            let [paths, update] = &**filters;
             Some((paths, update))
         }
         _ => None,
-    }
-}
-
-// The two trees of a list.
-fn both(trees: &[Tree]) -> Option<(&Tree, &Tree)>
-    ensures { IfSome result (λ r. trees.now ≡ r.0.now ∷ r.1.now ∷ []) }
-{
-    match trees {
-        [first, second] => Some((first, second)),
-        _ => None,
-    }
-}
-
-// The part at a path.
-fn part_under(alloc: Global, value: &Val, path: &[Val]) -> Option<Val>
-    ensures { IfSome result (λ part. getpath_of (view value.now) (map view path.now) ≡ Ok (view part)) }
-{
-    match getpath(alloc, value, path) {
-        Ok(part) => Some(part),
-        Err(_) => None,
     }
 }
 

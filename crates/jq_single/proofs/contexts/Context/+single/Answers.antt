@@ -7,7 +7,7 @@ use Rattle.jv_data.specs.Text.{text_of}
 use Rattle.jv_data.specs.View.{view}
 use Rattle.jq_ast.specs.Leaves.{key_of}
 use Rattle.jq_ast.specs.Named.{named, named_as_pattern}
-use Rattle.jq_ast.proofs.shared.Forms.{named-Field, named-Iterate, named-Pipe, named-Object, named-Text, named-Whole}
+use Rattle.jq_ast.proofs.shared.Forms.{named-Field, named-Iterate, named-Object, named-Text, named-Whole}
 use Rattle.jq_tree.specs.Tree as form
 use Rattle.jq_tree.specs.Tree.{Tree, whole}
 use Rattle.jq_meaning.specs.machine.Operations.{path_item}
@@ -25,7 +25,7 @@ use Rattle.jq_state.proofs.shared.Items.{absent, value_of_item}
 use Rattle.jq_single.specs.private.Updates.{listed, part_run, path_run}
 use Rattle.jq_single.specs.private.Parts.{run}
 use Rattle.jq_single.specs.Single.{Changed, Ends}
-use Rattle.jq_single.proofs.Binding.{bind-known, comes-bind, ends-bind, gathers_fail, gathers_stops, known_runs, stops, decided_by, decided_else, decided_stops, truth_of, with_variable, gathers-then, gathers_all, gives_first, stops_first, stops-then, gathered_list, gathered_same, bound_rest, fold_value, turned, fold_all, single_fold}
+use Rattle.jq_single.proofs.Binding.{bind-known, comes-bind, ends-bind, gathers_fail, gathers_stops, known_runs, stops, decided_by, decided_else, decided_stops, truth_of, with_variable, gathers-then, gathers_all, gives_first, stops_first, stops-then, gathered_list, gathered_same, items-same, bound_rest, fold_value, turned, fold_all, single_fold}
 use Rattle.jq_single.specs.declared.rests.Rest.TheVariants as rest
 use Rattle.jq_single.proofs.UpdateTurns.{changed-first, first-then, changed-prop, getpath_keys, listed_more, turn_lists, turn_raises, turn_sets, two_calls_deep}
 use Rattle.jq_single.proofs.Calls.{paths_run, paths-rest, body_runs, named-Identity, text_is, native_plain, one_value, two_chosen}
@@ -107,8 +107,18 @@ gather-returns-in-Field t c = λ inputs level.
     subst (Gathers (made inputs level c.args.rest.now) c.gather-in-Field.result c.args.into.now.items c.gather-in-Field.new.into.items)
     (sym (ap (λ u. bind (go u) later) field ∙ bind-bind (go (named c.deref-in-Field.result.now)) (on_target c.in-Field.guarded (string (key_of c.in-Field.key))) later)) (c.gather-in-Field.ensures inputs level)
 
-pub gather-returns-in-Pipe : goal.gather-returns-in-Pipe
-gather-returns-in-Pipe t c = grind (arith, bind-bind, named-Pipe)
+pub gather_pipe-returns-in-Body : goal.gather_pipe-returns-in-Body
+gather_pipe-returns-in-Body t c = λ inputs level.
+    let p = c.args.self.now in
+    let e = scope_env inputs c.scope_of_call-scope.result in
+    let body = named c.in-Body.body.now in
+    let go : Item → Run Item = run p inputs level (named c.args.second.now) in
+    let later : Item → Run Item = rest_run inputs level c.args.rest.now in
+    let first = run p inputs level (named c.args.first.now) (item_of c.args.item.now) in
+    let same : (x : Item) → go x ≡ meaning (p.depth - 1) body e level x = λ x.
+    (rw c.in-Body.is at c.called-called.ensures) inputs level x ∙ ap (λ z. below p.depth body z level x) (sym (c.scope_of_call-scope.ensures inputs)) ∙ sym (body_runs e p.depth (p.depth - 1) level body x (omega (arith, c.if-self-gt0.true))) in
+    subst (Gathers (made inputs level c.args.rest.now) c.gather.result c.args.into.now.items c.gather.new.into.items)
+    (sym (bind-bind first go later ∙ items-same first.items first.ending _ _ (λ x. ap (λ r. bind r later) (same x)))) (c.gather.ensures inputs level)
 
 pub gather_index-returns-in-Err : goal.gather_index-returns-in-Err
 gather_index-returns-in-Err t c = λ inputs level.
@@ -148,8 +158,9 @@ gather_binding-returns-in_ok-copy-in-Whole t c = λ inputs level.
 pub gather_call-returns-else-self-eq0 : goal.gather_call-returns-else-self-eq0
 gather_call-returns-else-self-eq0 t c = λ inputs level.
     let p = c.args.self.now in
-    let body = body_runs (scope_env inputs c.scope_of_call-scope.result) p.depth (p.depth - 1) level (named c.in-Body.body.now) (item_of c.args.item.now) (omega arith) in
-    rw (c.in-Body.ensures inputs level (item_of c.args.item.now), ← c.scope_of_call-scope.ensures inputs, ← body) (c.gather.ensures inputs level)
+    let x = item_of c.args.item.now in
+    let body = body_runs (scope_env inputs c.scope_of_call-scope.result) p.depth (p.depth - 1) level (named c.in-Body.body.now) x (omega arith) in
+    rw ((rw c.in-Body.is at c.called-called.ensures) inputs level x, ← c.scope_of_call-scope.ensures inputs, ← body) (c.gather.ensures inputs level)
 
 pub gather_builtin-returns-in-NoOutputs : goal.gather_builtin-returns-in-NoOutputs
 gather_builtin-returns-in-NoOutputs t c = λ inputs level. rw c.in-NoOutputs.is (λ q. refl)
@@ -186,20 +197,17 @@ give-returns-in-Fold t c = λ inputs level.
 
 pub gather_range-returns-in-Ok-get : goal.gather_range-returns-in-Ok-get
 gather_range-returns-in-Ok-get t c = λ inputs level.
-    let two : length c.args.arguments.now ≡ 2 = omega (arith, c.in-len2.len_at_least, c.in-len2.len_below) in
-    let same = two_chosen c.args.self.now inputs level range_of c.args.arguments.now c.start-item.result c.end-item.result (view c.args.value.now) two c.start-item.is c.end-item.is in
+    let same = two_chosen c.args.self.now inputs level range_of c.args.arguments.now c.start-item.result c.end-item.result (view c.args.value.now) (omega (arith, c.in-len2.len_at_least, c.in-len2.len_below)) c.start-item.is c.end-item.is in
     rw (same ∙ bind-known _ _ _ (c.in-Ok.ensures inputs level) ∙ bind-known _ _ _ (c.in-Ok-get.ensures inputs level)) (c.give_range.ensures inputs level)
 
 pub gather_range-returns-in-Ok : goal.gather_range-returns-in-Ok
 gather_range-returns-in-Ok t c = λ inputs level.
-    let two : length c.args.arguments.now ≡ 2 = omega (arith, c.in-len2.len_at_least, c.in-len2.len_below) in
-    let same = two_chosen c.args.self.now inputs level range_of c.args.arguments.now c.start-item.result c.end-item.result (view c.args.value.now) two c.start-item.is c.end-item.is in
+    let same = two_chosen c.args.self.now inputs level range_of c.args.arguments.now c.start-item.result c.end-item.result (view c.args.value.now) (omega (arith, c.in-len2.len_at_least, c.in-len2.len_below)) c.start-item.is c.end-item.is in
     rw (same ∙ bind-known _ _ _ (c.in-Ok.ensures inputs level)) (c.ended.ensures inputs level c.args.rest.now _ c.args.into.now.items (ends-bind _ _ _ (ends-bind _ _ _ (c.in-Err-get.ensures inputs level))))
 
 pub gather_range-returns-in-len2 : goal.gather_range-returns-in-len2
 gather_range-returns-in-len2 t c = λ inputs level.
-    let two : length c.args.arguments.now ≡ 2 = omega (arith, c.in-len2.len_at_least, c.in-len2.len_below) in
-    let same = two_chosen c.args.self.now inputs level range_of c.args.arguments.now c.start-item.result c.end-item.result (view c.args.value.now) two c.start-item.is c.end-item.is in
+    let same = two_chosen c.args.self.now inputs level range_of c.args.arguments.now c.start-item.result c.end-item.result (view c.args.value.now) (omega (arith, c.in-len2.len_at_least, c.in-len2.len_below)) c.start-item.is c.end-item.is in
     rw same (c.ended-in-Err.ensures inputs level c.args.rest.now _ c.args.into.now.items (ends-bind _ _ _ (ends-bind _ _ _ (c.in-Err.ensures inputs level))))
 
 pub give_step-returns-in-Error : goal.give_step-returns-in-Error
@@ -289,11 +297,6 @@ change_parts-returns-then-not-self-clause-runs t c = λ inputs level.
     let found = c.in-Ok.ensures inputs level in
     rw (found.0, found.1, ← c.as_slice-found.ensures.value) (c.change_each.ensures.runs inputs level)
 
-pub change_parts-returns-clause-runs : goal.change_parts-returns-clause-runs
-change_parts-returns-clause-runs t c = λ inputs level.
-    let found = c.in-Ok.ensures inputs level in
-    rw (found.0, found.1, ← c.as_slice-found.ensures.value) (c.change_copied.ensures.runs inputs level)
-
 pub paths_of-returns : goal.paths_of-returns
 paths_of-returns t c = λ inputs level.
     let go : Item → Run Item = run c.args.self.now inputs level (named c.args.tree.now) in
@@ -303,20 +306,20 @@ paths_of-returns t c = λ inputs level.
     (gathered_list inputs level 1048576 (tt {0}) c.new-paths.result.items c.gather.new.into.items r c.new-paths.ensures.items
     (subst (Gathers (made inputs level (rest.End 1048576)) (Ok (tt {0})) c.new-paths.result.items c.gather.new.into.items) added (c.in_ok-gather.ensures inputs level)))
 
-pub change_part-returns-in-Ok-clause-turn : goal.change_part-returns-in-Ok-clause-turn
-change_part-returns-in-Ok-clause-turn t c = λ inputs level go.
-    let got = getpath_keys (view c.args.value.now) c.args.path.now c.in-List.keys c.as_slice.result.now c.in-List.is c.as_slice.ensures ∙ c.in-Some.ensures in
-    turn_sets level (view c.args.value.now) (listed c.args.without.now.items) (view c.args.path.now) go (part_run c.args.self.now inputs level (named c.args.update.now)) (view c.in-Some.part) got c.put_at.result (view c.change_first.new.value) (view c.put_at.new.value)
-    (c.in-Ok.ensures.runs inputs (suc level)) c.put_at.ensures.runs
+pub change_part-returns-in-Ok-change_first-clause-turn : goal.change_part-returns-in-Ok-change_first-clause-turn
+change_part-returns-in-Ok-change_first-clause-turn t c = λ inputs level go.
+    let got = getpath_keys (view c.args.value.now) c.args.path.now c.in-List.keys c.as_slice.result.now c.in-List.is c.as_slice.ensures ∙ c.in-Ok.ensures in
+    turn_sets level (view c.args.value.now) (listed c.args.without.now.items) (view c.args.path.now) go (part_run c.args.self.now inputs level (named c.args.update.now)) (view c.in-Ok.part) got c.put_at.result (view c.change_first.new.value) (view c.put_at.new.value)
+    (c.in-Ok-change_first.ensures.runs inputs (suc level)) c.put_at.ensures.runs
 
 pub change_part-returns-in-Err-Nothing-clause-turn : goal.change_part-returns-in-Err-Nothing-clause-turn
 change_part-returns-in-Err-Nothing-clause-turn t c = λ inputs level go.
-    let got = getpath_keys (view c.args.value.now) c.args.path.now c.in-List.keys c.as_slice.result.now c.in-List.is c.as_slice.ensures ∙ c.in-Some.ensures in
-    turn_lists level (view c.args.value.now) (listed c.args.without.now.items) (view c.args.path.now) go (part_run c.args.self.now inputs level (named c.args.update.now)) (view c.in-Some.part) got (listed c.add_copy.new.without.items)
+    let got = getpath_keys (view c.args.value.now) c.args.path.now c.in-List.keys c.as_slice.result.now c.in-List.is c.as_slice.ensures ∙ c.in-Ok.ensures in
+    turn_lists level (view c.args.value.now) (listed c.args.without.now.items) (view c.args.path.now) go (part_run c.args.self.now inputs level (named c.args.update.now)) (view c.in-Ok.part) got (listed c.add_copy.new.without.items)
     ((rw c.in-Err-Nothing.field-0-is at c.in-Err-Nothing.ensures.runs) inputs (suc level)) (listed_more (map view c.args.without.now.items) _ (view c.args.path.now) c.in_ok-add_copy-in-Err-Nothing.ensures)
 
 pub change_part-returns-in-Err-Raised-clause-turn : goal.change_part-returns-in-Err-Raised-clause-turn
 change_part-returns-in-Err-Raised-clause-turn t c = λ inputs level go.
-    let got = getpath_keys (view c.args.value.now) c.args.path.now c.in-List.keys c.as_slice.result.now c.in-List.is c.as_slice.ensures ∙ c.in-Some.ensures in
-    turn_raises level (view c.args.value.now) (listed c.args.without.now.items) (view c.args.path.now) go (part_run c.args.self.now inputs level (named c.args.update.now)) (view c.in-Some.part) got (view c.in-Err-Raised.error)
+    let got = getpath_keys (view c.args.value.now) c.args.path.now c.in-List.keys c.as_slice.result.now c.in-List.is c.as_slice.ensures ∙ c.in-Ok.ensures in
+    turn_raises level (view c.args.value.now) (listed c.args.without.now.items) (view c.args.path.now) go (part_run c.args.self.now inputs level (named c.args.update.now)) (view c.in-Ok.part) got (view c.in-Err-Raised.error)
     ((rw c.in-Err-Raised.field-0-is at c.in-Err-Raised.ensures.runs) inputs (suc level))

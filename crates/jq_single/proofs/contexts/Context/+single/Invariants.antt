@@ -81,9 +81,6 @@ decreases-first_piece l = 32 * l.self.now.fuel + 10
 abbrev pub decreases-change_from : goal.decreases-change_from
 decreases-change_from l = 32 * l.self.now.fuel + 4
 
-abbrev pub decreases-may_copy : goal.decreases-may_copy
-decreases-may_copy l = 32 * l.self.now.fuel + 2
-
 abbrev pub decreases-collect : goal.decreases-collect
 decreases-collect l = 32 * l.self.now.fuel + 1
 
@@ -98,9 +95,6 @@ decreases-change_form l = 32 * l.self.now.fuel + 16
 
 abbrev pub decreases-change_binary : goal.decreases-change_binary
 decreases-change_binary l = 32 * l.self.now.fuel + 4
-
-abbrev pub decreases-change_operand : goal.decreases-change_operand
-decreases-change_operand l = 32 * l.self.now.fuel + 1
 
 abbrev pub decreases-change_choice : goal.decreases-change_choice
 decreases-change_choice l = 32 * l.self.now.fuel + 3
@@ -141,9 +135,6 @@ decreases-change_parts l = 32 * l.self.now.fuel + 9
 abbrev pub decreases-paths_of : goal.decreases-paths_of
 decreases-paths_of l = 32 * l.self.now.fuel + 5
 
-abbrev pub decreases-change_copied : goal.decreases-change_copied
-decreases-change_copied l = 32 * l.self.now.fuel + 8
-
 abbrev pub decreases-change_each : goal.decreases-change_each
 decreases-change_each l = 32 * l.self.now.fuel + 7
 
@@ -164,6 +155,9 @@ decreases-gather_one l = 32 * l.self.now.fuel + 6
 
 abbrev pub decreases-gather_index : goal.decreases-gather_index
 decreases-gather_index l = 32 * l.self.now.fuel + 5
+
+abbrev pub decreases-gather_pipe : goal.decreases-gather_pipe
+decreases-gather_pipe l = 32 * l.self.now.fuel + 1
 
 abbrev pub decreases-gather_comma : goal.decreases-gather_comma
 decreases-gather_comma l = 32 * l.self.now.fuel + 5
