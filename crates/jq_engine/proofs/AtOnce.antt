@@ -1,10 +1,12 @@
 -- What a filter of at most one output that is run at once keeps, and what a step keeps.
 use Rattle.std.proofs.Common.{◌≡◌, ◌≤◌, ◌<◌, List, length, subst, arith}
+use Rattle.std.proofs.Math.Logic.{∥∥₁_elim}
+use Rattle.jv_data.specs.Value.{Value}
 use Rattle.jq_tree.specs.Tree.{Tree}
 use Rattle.jq_meaning.specs.Meaning.{meaning}
 use Rattle.jq_meaning.specs.Runs.{Item, Ending, Done, Raised, Broken, Stopped, Run, one, ended}
 use Rattle.jq_meaning.specs.machine.Heights.{Fits, ForksFit, Fit}
-use Rattle.jq_meaning.specs.machine.Machine.{Produces}
+use Rattle.jq_meaning.specs.machine.Machine.{Produces, step}
 use Rattle.jq_meaning.specs.machine.Operations.{deliver, ending_next}
 use Rattle.jq_meaning.specs.machine.State.{Scope, Frame, ForkPoint, State, state, evaluate, give}
 use Rattle.jq_meaning.proofs.shared.machine.Comings.{pass_frames}
@@ -12,8 +14,12 @@ use Rattle.jq_meaning.proofs.shared.machine.Correct.{left}
 use Rattle.jq_meaning.proofs.shared.machine.Reading.{meaning_at, traced_at, run_at, behaviours, waiting, cells, still}
 use Rattle.jq_meaning.proofs.shared.machine.Behaviours.{rest}
 use Rattle.jq_meaning.proofs.shared.machine.Kept.{keeps-moves, fits-moves, left-falls}
+use Rattle.jq_state.specs.declared.states.State as states
+use Rattle.jq_transitions.specs.Outcomes.{Steps}
+use Rattle.jq_transitions.specs.declared.backtracking.outcomes.Progress.{Progress}
 use Rattle.jq_engine.proofs.Covering.{unmarked, rest_covered}
-use Rattle.jq_engine.specs.private.Leading.{AtOnce, unchanged, gives, ends, Advances, here, by_transition, by_run}
+use Rattle.jq_engine.proofs.Fitting.{Fit-prop}
+use Rattle.jq_engine.specs.private.Leading.{AtOnce, unchanged, gives, ends, Advances, here, by_transition, by_run, Leads}
 
 -- the run that is still to come
 abbrev pub Law : Type 0
@@ -88,3 +94,20 @@ low s u (by_transition {t = t} e a) f =
 low s u (by_run {t = t} o a) f =
     let first : left t ≤ left s = low_run s t o f in
     let later : left u ≤ left t = low t u a (fits_run s t o f) in omega (arith, first, later)
+
+-- ---- and then a step
+
+-- A step from a state that comes after this one: there the heights are in range, no more is left to do, and the run is the same.
+pub record Stepped (inputs : Run Value) (before : State) (s : states.State) (r : Progress) : Type 0 where
+  pub from : State
+  pub fit : Fit from
+  pub less : left from ≤ left before
+  pub run : (q : Run Item) → Produces before q → Produces from q
+  pub steps : Steps inputs (step from) s r
+
+pub stepped : {inputs : Run Value} {before later : State} {s : states.State} {r : Progress} → Law → AtOnce before later → Leads inputs later s r → ∥ Fit before ∥₁ → Stepped inputs before s r
+stepped {before = before} law o l some =
+    let a = by_run o l.advances in
+    let f = ∥∥₁_elim some (Fit-prop before) (λ h. h) in
+    let g = fits before l.from a f in
+    record { from = l.from; fit = g; less = low before l.from a f; run = λ q p. keeps law before l.from q a f p; steps = l.steps g }

@@ -1,18 +1,18 @@
 // Updates (`f |= g`): at once, or in turns, one for each path of `f`, which change a value that nobody else holds in place. Then `f` and
 // `g` have runs apart.
-ghost use Rattle.std.specs.Prelude.{◌≡◌, ◌<◌, ◌^◌, ◌-◌, [], ◌∷◌, IfOk, IsTrue, map};
+ghost use Rattle.std.specs.Prelude.{◌≡◌, ◌<◌, ◌^◌, ◌-◌, ℕ, [], ◌∷◌, IfOk};
 ghost use Rattle.jv_arith.specs.Arith.{add_of};
 ghost use Rattle.jv_data.specs.Fails.{AnswersAs};
-ghost use Rattle.jv_data.specs.Value.{Value, array, items_of};
+ghost use Rattle.jv_data.specs.Value.{array, items_of};
 ghost use Rattle.jv_data.specs.View.{view};
 ghost use Rattle.jq_ast.specs.Named.{named};
-ghost use Rattle.jq_meaning.specs.Runs.{Item, Run, answered, go_on, plain};
-ghost use Rattle.jq_meaning.specs.laws.Updating.{turns, with_answer};
+ghost use Rattle.jq_meaning.specs.Runs.{answered, go_on, one, plain};
 ghost use Rattle.jq_natives.specs.Answers.{Answer};
 ghost use Rattle.jq_natives.specs.PathNatives.{delpaths_native_of, setpath_native_of};
 ghost use Rattle.jq_state.specs.Environments.{count_of};
+ghost use Rattle.jq_state.specs.Nexts.{NextFits};
 ghost use Rattle.jq_transitions.specs.Outcomes.{ending_of};
-ghost use Rattle.jq_engine.specs.private.Updates.{EndsTurn, TakesTurn, TurnsTo, UpdatesTo, part_run, run_in};
+ghost use Rattle.jq_engine.specs.private.Updates.{EndsTurn, FollowsTurns, TakesAnswer, TakesTurn, TurnsTo, UpdatesTo, run_in, turns_in};
 
 use crate::apart::{Around, Found};
 use crate::at_once::change;
@@ -24,39 +24,31 @@ use jq_natives::{Native, call, call_in_place};
 use jq_operations::has_modify;
 use jq_single::{Stop, filters_of_update};
 use jq_state::frames::Scope;
+use jq_state::items::Item;
+use jq_state::next::Next;
 use jq_transitions::Ending;
 use jv_arith::add_to;
 use jv_data::{Array, Fail, NoMemory, Val};
-use jv_value::laws::deleting_no_path_changes_nothing;
 use std::alloc::{AllocError, Global};
 use std::mem::replace;
 
 // The most environments that are copied for a run apart.
 const MOST: u32 = 1_000;
 
-/// What an update comes to.
-#[derive(Drop)]
-pub(crate) enum Updated {
-    /// Its output.
-    Value(Val),
-    /// It has no output.
-    Ends(Ending),
-    /// It is left to the machine, with its input.
-    Unknown(Val),
-}
-
 impl<'a, 'p> Around<'a, 'p> {
-    /// An update on a value: at once, or turn by turn.
+    /// What is done next where an update is to be evaluated on a value: it runs at once, or turn by turn, or is left to the machine.
     #[cycle(running)]
+    #[inline(never)]
     pub(crate) fn update(
         &self,
         tree: &'p Tree,
         scope: Scope,
         value: Val,
         guard: &mut Guard,
-    ) -> Result<Updated, NoMemory>
+    ) -> Result<Next<'p>, NoMemory>
         requires { scope.env < count_of self.now.state.now.nodes }
-        ensures { IfOk result (UpdatesTo (view value) (run_in self.now (named tree.now) scope (view value))) }
+        ensures fits { IfOk result (NextFits (count_of self.now.state.now.nodes)) }
+        ensures run { IfOk result (UpdatesTo (named tree.now) scope (view value) (run_in self.now (named tree.now) scope (view value))) }
     {
         if !guard.has_credit() {
             return self.update_in_turns(tree, scope, value, guard);
@@ -65,10 +57,10 @@ impl<'a, 'p> Around<'a, 'p> {
         match change(self.alloc, self.state.nodes(), tree, scope, &mut value) {
             Ok(()) => {
                 guard.gain();
-                Ok(Updated::Value(value))
+                Ok(Next::Give(Item::plain(value)))
             }
-            Err(Stop::Raised(error)) => Ok(Updated::Ends(Ending::Raised(error))),
-            Err(Stop::Nothing) => Ok(Updated::Ends(Ending::Done)),
+            Err(Stop::Raised(error)) => Ok(Next::Raise(error)),
+            Err(Stop::Nothing) => Ok(Next::GoBack),
             Err(Stop::NoMemory) => Err(NoMemory),
             Err(Stop::Unknown) => {
                 guard.pay();
@@ -86,59 +78,57 @@ impl<'a, 'p> Around<'a, 'p> {
         scope: Scope,
         value: Val,
         guard: &mut Guard,
-    ) -> Result<Updated, NoMemory>
+    ) -> Result<Next<'p>, NoMemory>
         requires { scope.env < count_of self.now.state.now.nodes }
-        ensures { IfOk result (UpdatesTo (view value) (run_in self.now (named tree.now) scope (view value))) }
+        ensures fits { IfOk result (NextFits (count_of self.now.state.now.nodes)) }
+        ensures run { IfOk result (UpdatesTo (named tree.now) scope (view value) (run_in self.now (named tree.now) scope (view value))) }
     {
         an_update_is_its_turns();
         let Some((paths, part)) = filters_of_update(tree) else {
-            return Ok(Updated::Unknown(value));
+            return Ok(Next::Evaluate(tree, scope, Item::plain(value)));
         };
         if self.nesting == 0
             || scope.depth < 2
             || scope.level == u32::MAX
             || self.state.nodes().count() > MOST
+            || !has_modify(self.state.nodes(), scope.env)
         {
-            return Ok(Updated::Unknown(value));
-        }
-        if !has_modify(self.state.nodes(), scope.env) {
-            return Ok(Updated::Unknown(value));
+            return Ok(Next::Evaluate(tree, scope, Item::plain(value)));
         }
         let inside = Scope {
             depth: scope.depth - 2,
             ..scope
         };
-        match self.paths_apart(paths, inside, &value, guard)? {
-            Some(found) => self.take_turns(part, inside, found, value, guard),
-            None => Ok(Updated::Unknown(value)),
-        }
+        let Some(found) = self.paths_apart(paths, inside, &value, guard)? else {
+            return Ok(Next::Evaluate(tree, scope, Item::plain(value)));
+        };
+        let mut value = value;
+        let ended = self.take_turns(part, inside, found, &mut value, guard)?;
+        Ok(next_after(ended, value))
     }
 
-    // A turn for each path, and the end of the update.
+    // A turn for each path, and the end of the update. Without an ending the value is the output.
     #[cycle(running)]
     fn take_turns(
         &self,
         part: &'p Tree,
         scope: Scope,
         found: Found,
-        value: Val,
+        value: &mut Val,
         guard: &mut Guard,
-    ) -> Result<Updated, NoMemory>
+    ) -> Result<Option<Ending>, NoMemory>
         requires env { scope.env < count_of self.now.state.now.nodes }
         requires level { scope.level < 2 ^ 32 - 1 }
         requires nesting { 0 < self.now.nesting }
-        ensures { IfOk result (UpdatesTo (view value) (turns scope.level (part_run self.now (named part.now) scope) (map view found.paths.items) (ending_of found.ending) (view value) (array (items_of [])))) }
+        ensures { IfOk result (λ o. TurnsTo o (one (plain (view value.new))) (turns_in self.now (named part.now) scope found (view value.old))) }
     {
-        let mut value = value;
         let mut listed = no_paths(self.alloc)?;
         for path in found.paths.as_slice() {
-            match self.take_turn(part, scope, path, &mut value, &mut listed, guard)? {
-                None => {}
-                Some(ending) => return Ok(Updated::Ends(ending)),
+            if let Some(ending) = self.take_turn(part, scope, path, value, &mut listed, guard)? {
+                return Ok(Some(ending));
             }
         }
-        let updated = finish(self.alloc, found.ending, value, listed)?;
-        Ok(updated)
+        finish(self.alloc, found.ending, value, listed)
     }
 
     // The part at a path becomes the first output of `g`. Without an output the path is listed.
@@ -166,16 +156,10 @@ impl<'a, 'p> Around<'a, 'p> {
             level: scope.level + 1,
             ..scope
         };
+        let own = scope.level;
         match self.first_output(part, inside, old, guard)? {
             Reached::Output(item) => put(self.alloc, value, path, item.value),
-            Reached::End(ending) => without_part(
-                self.alloc,
-                ending,
-                scope.level,
-                value,
-                listed,
-                path,
-            ),
+            Reached::End(ending) => without_part(self.alloc, ending, own, value, listed, path),
         }
     }
 }
@@ -197,10 +181,9 @@ fn without_part(
             if level == own {
                 *value = Val::Null;
                 *listed = Val::Null;
-                Ok(None)
-            } else {
-                Ok(Some(Ending::Broken(level)))
+                return Ok(None);
             }
+            Ok(Some(Ending::Broken(level)))
         }
         Ending::Raised(error) => Ok(Some(Ending::Raised(error))),
         Ending::Stopped(stop) => Ok(Some(Ending::Stopped(stop))),
@@ -216,7 +199,7 @@ fn no_paths(alloc: Global) -> Result<Val, AllocError>
 
 // The value gets a part at a path.
 fn put(alloc: Global, value: &mut Val, path: &Val, part: Val) -> Result<Option<Ending>, NoMemory>
-    ensures { IfOk result (λ o. (go : Value → Run Item) → TurnsTo o (go (view value.new)) (with_answer (setpath_native_of (view value.old) (view path.now) (view part)) go)) }
+    ensures { IfOk result (λ o. TakesAnswer o (view value.new) (setpath_native_of (view value.old) (view path.now) (view part))) }
 {
     let taken = replace(value, Val::Null);
     let arguments = [path.copy()?, part];
@@ -228,7 +211,7 @@ fn put(alloc: Global, value: &mut Val, path: &Val, part: Val) -> Result<Option<E
 
 // A path is added to a list.
 fn list(alloc: Global, listed: &mut Val, path: &Val) -> Result<Option<Ending>, NoMemory>
-    ensures { IfOk result (λ o. (go : Value → Run Item) → TurnsTo o (go (view listed.new)) (with_answer (add_of (view listed.old) (array (items_of (view path.now ∷ [])))) go)) }
+    ensures { IfOk result (λ o. TakesAnswer o (view listed.new) (add_of (view listed.old) (array (items_of (view path.now ∷ []))))) }
 {
     let taken = replace(listed, Val::Null);
     let items = vec![in alloc; path.copy()?]?;
@@ -236,9 +219,20 @@ fn list(alloc: Global, listed: &mut Val, path: &Val) -> Result<Option<Ending>, N
     take_answer(listed, add_to(alloc, taken, &more))
 }
 
+// The parts at the listed paths are deleted.
+fn delete(alloc: Global, value: &mut Val, listed: Val) -> Result<Option<Ending>, NoMemory>
+    ensures { IfOk result (λ o. TakesAnswer o (view value.new) (delpaths_native_of (view value.old) (view listed))) }
+{
+    let taken = replace(value, Val::Null);
+    take_answer(
+        value,
+        call_in_place(alloc, Native::DelPaths, taken, &[listed]),
+    )
+}
+
 // An answer takes the place of a value. An error ends the update.
 fn take_answer(value: &mut Val, answer: Result<Val, Fail>) -> Result<Option<Ending>, NoMemory>
-    ensures { IfOk result (λ o. (expected : Answer) (go : Value → Run Item) → AnswersAs answer expected → TurnsTo o (go (view value.new)) (with_answer expected go)) }
+    ensures { IfOk result (λ o. (expected : Answer) → AnswersAs answer expected → TakesAnswer o (view value.new) expected) }
 {
     match answer {
         Ok(found) => {
@@ -251,37 +245,32 @@ fn take_answer(value: &mut Val, answer: Result<Val, Fail>) -> Result<Option<Endi
 }
 
 // If the paths ended without an error or a break, the parts at the listed paths are deleted.
-fn finish(alloc: Global, ending: Ending, value: Val, listed: Val) -> Result<Updated, NoMemory>
-    ensures { IfOk result (λ u. (v : Value) → UpdatesTo v (go_on (ending_of ending) (answered plain (delpaths_native_of (view value) (view listed)))) u) }
+fn finish(
+    alloc: Global,
+    ending: Ending,
+    value: &mut Val,
+    listed: Val,
+) -> Result<Option<Ending>, NoMemory>
+    ensures { IfOk result (λ o. TurnsTo o (one (plain (view value.new))) (go_on (ending_of ending) (answered plain (delpaths_native_of (view value.old) (view listed))))) }
 {
     match ending {
         Ending::Done => delete(alloc, value, listed),
-        Ending::Raised(error) => Ok(Updated::Ends(Ending::Raised(error))),
-        Ending::Broken(level) => Ok(Updated::Ends(Ending::Broken(level))),
-        Ending::Stopped(stop) => Ok(Updated::Ends(Ending::Stopped(stop))),
+        Ending::Raised(error) => Ok(Some(Ending::Raised(error))),
+        Ending::Broken(level) => Ok(Some(Ending::Broken(level))),
+        Ending::Stopped(stop) => Ok(Some(Ending::Stopped(stop))),
     }
 }
 
-// The parts at the listed paths are deleted.
-fn delete(alloc: Global, value: Val, listed: Val) -> Result<Updated, NoMemory>
-    ensures { IfOk result (λ u. (v : Value) → UpdatesTo v (answered plain (delpaths_native_of (view value) (view listed))) u) }
+// What is done next after the turns: the value is the output, unless they ended so.
+fn next_after<'p>(ended: Option<Ending>, value: Val) -> Next<'p>
+    ensures fits { (count : ℕ) → NextFits count result }
+    ensures run { FollowsTurns ended (view value) result }
 {
-    deleting_no_path_changes_nothing();
-    if is_empty(&listed) {
-        return Ok(Updated::Value(value));
-    }
-    match call_in_place(alloc, Native::DelPaths, value, &[listed]) {
-        Ok(found) => Ok(Updated::Value(found)),
-        Err(Fail::Raised(error)) => Ok(Updated::Ends(Ending::Raised(error))),
-        Err(Fail::NoMemory) => Err(NoMemory),
-    }
-}
-
-fn is_empty(listed: &Val) -> bool
-    ensures { IsTrue result → view listed.now ≡ array (items_of []) }
-{
-    match listed {
-        Val::List(items) => items.len() == 0,
-        _ => false,
+    match ended {
+        None => Next::Give(Item::plain(value)),
+        Some(Ending::Done) => Next::GoBack,
+        Some(Ending::Raised(error)) => Next::Raise(error),
+        Some(Ending::Broken(level)) => Next::Leave(level),
+        Some(Ending::Stopped(stop)) => Next::Quit(stop),
     }
 }

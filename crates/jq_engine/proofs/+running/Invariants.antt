@@ -1,11 +1,10 @@
-use Rattle.std.proofs.Common.{◌≡◌, ◌+◌, ◌*◌, [], drop, map}
-use Rattle.jv_data.specs.Value.{array, items_of}
+use Rattle.std.proofs.Common.{◌≡◌, ◌+◌, ◌*◌, drop, map}
 use Rattle.jv_data.specs.View.{view}
 use Rattle.jq_ast.specs.Named.{named}
-use Rattle.jq_meaning.specs.Runs.{Ending, Run, Item, paths_in}
+use Rattle.jq_meaning.specs.Runs.{Ending, Run, Item}
 use Rattle.jq_meaning.specs.laws.Updating.{turns}
 use Rattle.jq_engine.specs.Readiness.{CanGoOn}
-use Rattle.jq_engine.specs.private.Updates.{part_run}
+use Rattle.jq_engine.specs.private.Updates.{part_run, path_run}
 use Rattle.jq_engine.proofs.Paths.{PathsLeft}
 use Rattle.jq_meaning.specs.machine.Heights.{Fit}
 use Rattle.jq_meaning.specs.machine.Machine.{Produces}
@@ -34,9 +33,6 @@ decreases-running::run l = 16 * l.nesting + 9
 abbrev pub decreases-running::updated : goal.decreases-running::updated
 decreases-running::updated l = 16 * l.nesting + 8
 
-abbrev pub decreases-running::after_update : goal.decreases-running::after_update
-decreases-running::after_update l = 16 * l.nesting + 7
-
 abbrev pub decreases-apart::Around::update : goal.decreases-apart::Around::update
 decreases-apart::Around::update l = 16 * l.self.now.nesting + 6
 
@@ -56,7 +52,7 @@ decreases-apart::Around::first_output l = 16 * l.self.now.nesting + 1
 abbrev pub invariant-apart::Around::take_turns-loop-path : goal.invariant-apart::Around::take_turns-loop-path
 invariant-apart::Around::take_turns-loop-path l =
     let g = part_run l.self (named l.part) l.scope in
-    (e : Ending) → turns l.scope.level g (map view (drop l.path-index l.path-items)) e (view l.value) (view l.listed) ≡ turns l.scope.level g (map view l.path-items) e (view l.initial.value) (array (items_of []))
+    (e : Ending) → turns l.scope.level g (map view (drop l.path-index l.path-items)) e (view l.value) (view l.listed) ≡ turns l.scope.level g (map view l.path-items) e (view l.initial.value) (view l.initial.listed)
 
 -- the paths so far, and those that are still to come, are all paths
 abbrev pub invariant-apart::Around::paths_apart-paths : goal.invariant-apart::Around::paths_apart-paths
@@ -64,11 +60,8 @@ invariant-apart::Around::paths_apart-paths l =
     let inputs = inputs_of l.self.inputs.now in
     record {
       ready : ∥ CanGoOn inputs l.apart l.next ∥₁;
-      left : (all : Run Item) → Produces (stands inputs l.initial.apart l.initial.next) all → ∥ PathsLeft inputs l.apart l.next (paths_in all) (map view l.paths.items) ∥₁;
+      left : PathsLeft inputs l.apart l.next (path_run l.self (named l.tree) l.fn.scope (view l.value)) (map view l.paths.items);
     }
-
-abbrev pub decreases-apart::Around::paths_apart-paths : goal.decreases-apart::Around::paths_apart-paths
-decreases-apart::Around::paths_apart-paths l = l.left
 
 abbrev pub decreases-apart::Around::paths_apart : goal.decreases-apart::Around::paths_apart
 decreases-apart::Around::paths_apart l = 16 * l.self.now.nesting + 1
