@@ -1,0 +1,47 @@
+#!/usr/bin/env python3
+"""Tries the edits of tests/edits/CRATE, which the prover must refuse, as `rt must-fail` tries those of crates/CRATE/must-fail.
+
+    tests/edits.py              those of all crates
+    tests/edits.py jq_stream    those of one crate
+
+The gate leaves them out, since a check of their crates takes minutes: `jq_stream`, `jq_script` and `jq_app` have one edit each in
+their own must-fail/. The libraries below a crate are built first, if they have changed. The last line is 'N passed, M failed'.
+"""
+import os
+import pathlib
+import sys
+
+ROOT = pathlib.Path(__file__).resolve().parent.parent
+sys.path.insert(0, str(ROOT / "tools"))
+import build  # noqa: E402
+
+ONE_JOB = ["--jobs", "1"]
+
+
+def judge(kit, crate):
+    """For each edit of a crate whether it was refused, and what to say."""
+    if any(low.build_rlib(ONE_JOB, anew=False) for low in crate.below()):
+        return [(False, f"{crate.name}: a library below it is not proved")]
+    edits = sorted(map(str, (ROOT / "tests" / "edits" / crate.name).glob("*.edit")))
+    return kit.must_fail_all(crate, edits, ONE_JOB)
+
+
+def main():
+    os.chdir(ROOT)
+    kit = build.load_kit()
+    kit.rtlib.guarded()
+    folders = {folder.name for folder in (ROOT / "tests" / "edits").iterdir()}
+    names = set(sys.argv[1:]) or folders
+    if names - folders:
+        sys.exit(f"no edits in tests/edits/ for {', '.join(sorted(names - folders))}")
+    passed = failed = 0
+    for crate in kit.rtlib.crates_below(str(ROOT)):
+        for refused, text in judge(kit, crate) if crate.name in names else []:
+            print(text, flush=True)
+            passed, failed = passed + refused, failed + (not refused)
+    print(f"{passed} passed, {failed} failed")
+    sys.exit(1 if failed else 0)
+
+
+if __name__ == "__main__":
+    main()
