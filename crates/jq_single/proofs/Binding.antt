@@ -1,12 +1,9 @@
 -- What is claimed of a run that goes on with another filter, of outputs that are added to a list, and of the steps of a fold.
-use Rattle.std.proofs.Common.{◌≡◌, ◌∙◌, ℕ, List, Bool, true, false, Result, Ok, Err, refl, sym, ap, subst, [], ◌∷◌, ◌++◌, map, reverse, length, Option, Some, option_to_list, arith, None, IfSome}
-use Rattle.std.proofs.lemmas.Bool.{false≢true}
+use Rattle.std.proofs.Common.{◌≡◌, ◌∙◌, ℕ, List, Result, Ok, Err, refl, sym, ap, subst, [], ◌∷◌, ◌++◌, map, reverse, length, Option, Some, option_to_list, arith, None, IfSome}
 use Rattle.std.specs.Result.{IsErrAnd}
-use mathlib.Core.Bool.{beq}
-use Rattle.jv_data.specs.Value.{Value, boolean, array, items_of, values_of, null}
+use Rattle.jv_data.specs.Value.{Value, array, items_of, values_of, null}
 use Rattle.jv_data.specs.declared.values.Val.{Val}
-use Rattle.jq_natives.specs.Answers.{is_true}
-use Rattle.jq_meaning.specs.Continuations.{truth, on_conjunct, on_disjunct, on_source, in_bindings, on_state}
+use Rattle.jq_meaning.specs.Continuations.{on_source, in_bindings, on_state}
 use Rattle.jq_tree.specs.Tree.{Name, Tree}
 use Rattle.jq_meaning.specs.Env.{Env, bound, value_of}
 use Rattle.jq_meaning.specs.Meaning.{Means, below, bindings_with, meaning}
@@ -14,7 +11,7 @@ use Rattle.jq_meaning.specs.Runs.{Item, plain, Run, one, fail, bind, value_in, E
 use Rattle.jq_meaning.proofs.shared.machine.RunLaws.{bind-one, bind-bind, bind-one_right, bind-then_run, then_run-assoc, then_run-none}
 use Rattle.jq_single.specs.Single.{Ends, Comes, Keeps, Leaves}
 use Rattle.jq_single.specs.private.Gathering.{GoesOn, Gathers, GathersAll, given_of, made, rest_run, fold_run, folded, last_or, state_in, turn}
-use Rattle.jq_single.specs.private.Parts.{decided, run}
+use Rattle.jq_single.specs.private.Parts.{run}
 use Rattle.jq_single.specs.declared.stops.Stop.{Stop}
 use Rattle.std.proofs.lemmas.List.{append-nil, map-append, reverse-append}
 use Rattle.jv_data.proofs.shared.Items.{values_of-items_of}
@@ -73,31 +70,6 @@ keeps_part (Err e) s v w h k = subst (λ z. Leaves z v w) (sym h) k
 
 -- what each function may use
 pub ruleset known_runs = (part_stops, keeps_stops, keeps_part, bind-one, bind-bind, value_of_item, absent, view-Bool, view-List)
-
--- ---- conditions
-
-module _ (p : Context) (inputs : Run Value) (level : ℕ) (t u : Tree) (v : Value) where
-  pub decided_by : (by b : Bool) (w : Value) → run p inputs level t (plain v) ≡ one (plain w) → is_true w ≡ b → beq b by ≡ true → run p inputs level (decided by t u) (plain v) ≡ one (plain (boolean by))
-  unfolding on_conjunct on_disjunct
-  decided_by true true w e k h = bind-known (run p inputs level t (plain v)) (plain w) (on_disjunct (run p inputs level u) (plain v)) e ∙ rw (k, on_disjunct) refl
-  decided_by false false w e k h = bind-known (run p inputs level t (plain v)) (plain w) (on_conjunct (run p inputs level u) (plain v)) e ∙ rw (k, on_conjunct) refl
-  decided_by true false w e k h = absurd (false≢true h)
-  decided_by false true w e k h = absurd (false≢true h)
-
-  pub decided_else : (by b : Bool) (w : Value) → run p inputs level t (plain v) ≡ one (plain w) → is_true w ≡ b → beq b by ≡ false → run p inputs level (decided by t u) (plain v) ≡ bind (run p inputs level u (plain v)) truth
-  unfolding on_conjunct on_disjunct
-  decided_else true false w e k h = bind-known (run p inputs level t (plain v)) (plain w) (on_disjunct (run p inputs level u) (plain v)) e ∙ rw (k, on_disjunct) refl
-  decided_else false true w e k h = bind-known (run p inputs level t (plain v)) (plain w) (on_conjunct (run p inputs level u) (plain v)) e ∙ rw (k, on_conjunct) refl
-  decided_else true true w e k h = absurd (false≢true (sym h))
-  decided_else false false w e k h = absurd (false≢true (sym h))
-
-  pub decided_stops : (by : Bool) (s : Stop) → Ends s (run p inputs level t (plain v)) → Ends s (run p inputs level (decided by t u) (plain v))
-  decided_stops true s h = ends-bind s (run p inputs level t (plain v)) (on_disjunct (run p inputs level u) (plain v)) h
-  decided_stops false s h = ends-bind s (run p inputs level t (plain v)) (on_conjunct (run p inputs level u) (plain v)) h
-
-pub truth_of : (l : Run Item) (w : Value) (b : Bool) → l ≡ one (plain w) → b ≡ is_true w → bind l truth ≡ one (plain (boolean b))
-unfolding truth
-truth_of l w b e t = bind-known l (plain w) truth e ∙ ap (λ c. one (plain (boolean c))) (sym t)
 
 -- ---- variables
 

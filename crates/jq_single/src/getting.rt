@@ -4,7 +4,7 @@ ghost use Rattle.jv_data.specs.Value.{array, items_of};
 ghost use Rattle.jv_data.specs.View.{view};
 ghost use Rattle.jq_ast.specs.Leaves.{operator_of};
 ghost use Rattle.jq_ast.specs.Named.{named, name_of, named_entry};
-ghost use Rattle.jq_single.specs.private.Parts.{RunsTo, Answers, Follows, decided};
+ghost use Rattle.jq_single.specs.private.Parts.{RunsTo, Answers, Follows};
 ghost use Rattle.jq_meaning.specs.Continuations.{on_target, format_of, put_between, text_item};
 ghost use Rattle.jq_meaning.specs.Runs.{plain, bind};
 ghost use Rattle.jv_data.specs.Shared.{text_in};
@@ -78,7 +78,10 @@ impl<'s> Context<'s> {
             Tree::Identity => Ok(value.copy()?),
             Tree::Empty => Err(Stop::Nothing),
             Tree::Literal(constant) => Ok(literal(constant)?),
-            Tree::Text(format, pieces, last) => self.text(format, pieces.as_slice(), last, value),
+            Tree::Text(format, pieces, last) => {
+                let text = self.pieces(format, pieces.as_slice(), last, value)?;
+                Ok(Val::Text(text))
+            }
             Tree::Format(format) => get_format(self.alloc, format, value),
             Tree::Variable(name) => Ok(value_of(self.scope, name)?),
             Tree::Field(target, key, guarded) => self.field(target, key.value(), *guarded, value),
@@ -86,8 +89,8 @@ impl<'s> Context<'s> {
             Tree::Slice(target, from, to, guarded) => self.slice(target, from, to, *guarded, value),
             Tree::Pipe(first, second) => self.pipe(first, second, value),
             Tree::Binary(operator, left, right) => self.binary(*operator, left, right, value),
-            Tree::And(left, right) => self.decided(false, left, right, value),
-            Tree::Or(left, right) => self.decided(true, left, right, value),
+            Tree::And(left, right) => self.conjunction(left, right, value),
+            Tree::Or(left, right) => self.disjunction(left, right, value),
             Tree::Alternative(left, right) => self.alternative(left, right, value),
             Tree::Negation(operand) => self.negation(operand, value),
             Tree::Array(filter) => self.array(filter, value),
@@ -216,15 +219,31 @@ impl<'s> Context<'s> {
         Ok(Val::List(Array::from_vec(self.alloc, items)?))
     }
 
-    // `f or g`, where true decides, and `f and g`, where false does. The right side is run if the left side does not decide.
+    // `f and g`: if the left side is false, the right one is not run.
     #[cycle(single)]
     #[inline(never)]
-    fn decided(&self, by: bool, left: &'s Tree, right: &'s Tree, value: &Val) -> Result<Val, Stop>
-        ensures { RunsTo self.now (decided by (named left.now) (named right.now)) (view value.now) result }
+    #[tactic(auto, unfolding(jq_meaning::specs::Continuations::on_conjunct, jq_meaning::specs::Continuations::truth))]
+    fn conjunction(&self, left: &'s Tree, right: &'s Tree, value: &Val) -> Result<Val, Stop>
+        ensures { RunsTo self.now (form.conjunction (named left.now) (named right.now)) (view value.now) result }
     {
         let first = self.get(left, value)?;
-        if truth(&first) == by {
-            return Ok(Val::Bool(by));
+        if !truth(&first) {
+            return Ok(Val::Bool(false));
+        }
+        let second = self.get(right, value)?;
+        Ok(Val::Bool(truth(&second)))
+    }
+
+    // `f or g`: if the left side is true, the right one is not run.
+    #[cycle(single)]
+    #[inline(never)]
+    #[tactic(auto, unfolding(jq_meaning::specs::Continuations::on_disjunct, jq_meaning::specs::Continuations::truth))]
+    fn disjunction(&self, left: &'s Tree, right: &'s Tree, value: &Val) -> Result<Val, Stop>
+        ensures { RunsTo self.now (form.disjunction (named left.now) (named right.now)) (view value.now) result }
+    {
+        let first = self.get(left, value)?;
+        if truth(&first) {
+            return Ok(Val::Bool(true));
         }
         let second = self.get(right, value)?;
         Ok(Val::Bool(truth(&second)))
@@ -266,22 +285,7 @@ impl<'s> Context<'s> {
         }
     }
 
-    // `"a\(f)b"`, `@name "a\(f)b"`.
-    #[cycle(single)]
-    #[inline(never)]
-    fn text(
-        &self,
-        format: &Name,
-        pieces: &'s [Piece<Tree>],
-        last: &String,
-        value: &Val,
-    ) -> Result<Val, Stop>
-        ensures { RunsTo self.now (form.text (name_of format.now) (named_pieces pieces.now last.now)) (view value.now) result }
-    {
-        Ok(Val::Text(self.pieces(format, pieces, last, value)?))
-    }
-
-    // The text of the remaining pieces.
+    // The text of the remaining pieces of `"a\(f)b"` or `@name "a\(f)b"`.
     #[cycle(single)]
     fn pieces(
         &self,

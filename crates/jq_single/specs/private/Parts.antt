@@ -1,11 +1,11 @@
 -- The outputs of the parts of a filter that has at most one output.
-use Rattle.std.specs.Prelude.{◌≡◌, ℕ, Bool, true, false, map, Result}
+use Rattle.std.specs.Prelude.{◌≡◌, ℕ, map, Result}
 use Rattle.jq_natives.specs.declared.native.Native.{Native}
 use Rattle.jv_data.specs.Value.{Value}
 use Rattle.jv_data.specs.View.{view}
 use Rattle.jv_data.specs.declared.values.Val.{Val}
 use Rattle.jq_ast.specs.Named.{named}
-use Rattle.jq_tree.specs.Tree.{Tree, Trees, conjunction, disjunction, trees_of}
+use Rattle.jq_tree.specs.Tree.{Tree, Trees, trees_of}
 use Rattle.jq_meaning.specs.Builtins.{Builtin, builtin_run, each_choice, plain_native}
 use Rattle.jq_meaning.specs.Env.{find_inputs}
 use Rattle.jq_meaning.specs.Meaning.{arguments_with, below, meaning}
@@ -37,11 +37,6 @@ ChangesTo p t v w result = (inputs : Run Value) (level : ℕ) → Changed result
 -- The run of a tree, followed by another filter.
 abbrev pub Follows : Context → Tree → Value → (Item → Run Item) → Result Val Stop → Type 0
 Follows p t v next result = (inputs : Run Value) (level : ℕ) → Answers result (bind (run p inputs level t (plain v)) next)
-
--- `or` if true decides, and else `and`.
-abbrev pub decided : (by : Bool) → (left right : Tree) → Tree
-decided true t u = disjunction t u
-decided false t u = conjunction t u
 
 -- ---- names of the language
 

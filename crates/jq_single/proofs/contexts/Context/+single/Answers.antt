@@ -1,6 +1,6 @@
 use Rattle.std.proofs.Common.{rules, Ok, [], suc, ◌≡◌, ◌∙◌, ◌-◌, arith, length, map, refl, sym, ap, subst}
 use Rattle.std.proofs.Math.Logic.{∥∥₁_elim}
-use Rattle.jv_data.proofs.shared.Levels.{view-Bool}
+use Rattle.jv_data.proofs.shared.Levels.{view-Text}
 use Rattle.jv_data.specs.Shared.{text_in}
 use Rattle.jv_data.specs.Value.{string}
 use Rattle.jv_data.specs.Text.{text_of}
@@ -14,7 +14,7 @@ use Rattle.jq_meaning.specs.machine.Operations.{path_item}
 use Rattle.jq_meaning.specs.Builtins.{range_of}
 use Rattle.jq_meaning.specs.Folds.{reduced}
 use Rattle.jq_meaning.specs.Meaning.{below, bindings_with, meaning}
-use Rattle.jq_meaning.specs.Continuations.{on_source, on_state, on_target, on_back, on_inserted, truth, on_test, on_error, on_left, on_right}
+use Rattle.jq_meaning.specs.Continuations.{text_item, on_source, on_state, on_target, on_back, on_inserted, on_test, on_error, on_left, on_right}
 use Rattle.jq_meaning.specs.Runs.{Run, Item, plain, located, as_value, none, one, bind}
 use Rattle.jq_single.specs.private.Scopes.{scope_env}
 use Rattle.jq_meaning.proofs.shared.machine.RunLaws.{bind-bind, bind-then_run}
@@ -25,7 +25,7 @@ use Rattle.jq_state.proofs.shared.Items.{absent, value_of_item}
 use Rattle.jq_single.specs.private.Updates.{listed, part_run, path_run}
 use Rattle.jq_single.specs.private.Parts.{run}
 use Rattle.jq_single.specs.Single.{Changed, Ends}
-use Rattle.jq_single.proofs.Binding.{bind-known, comes-bind, ends-bind, gathers_fail, gathers_stops, known_runs, stops, decided_by, decided_else, decided_stops, truth_of, with_variable, gathers-then, gathers_all, gives_first, stops_first, stops-then, gathered_list, gathered_same, items-same, bound_rest, fold_value, turned, fold_all, single_fold}
+use Rattle.jq_single.proofs.Binding.{part_stops, bind-known, comes-bind, ends-bind, gathers_fail, gathers_stops, known_runs, stops, with_variable, gathers-then, gathers_all, gives_first, stops_first, stops-then, gathered_list, gathered_same, items-same, bound_rest, fold_value, turned, fold_all, single_fold}
 use Rattle.jq_single.specs.declared.rests.Rest.TheVariants as rest
 use Rattle.jq_single.proofs.UpdateTurns.{changed-first, first-then, changed-prop, getpath_keys, listed_more, turn_lists, turn_raises, turn_sets, two_calls_deep}
 use Rattle.jq_single.proofs.Calls.{paths_run, paths-rest, body_runs, named-Identity, text_is, native_plain, one_value, two_chosen}
@@ -33,8 +33,13 @@ use Rattle.jq_single.proofs.contexts.Context.+single.Goals as goal
 
 -- ---- forms
 
-pub get_made-returns-in-Text : goal.get_made-returns-in-Text
-get_made-returns-in-Text t c = λ inputs level. rw (ap named c.in-Text.is ∙ named-Text c.in-Text.format c.in-Text.pieces c.in-Text.last, ← c.as_slice.ensures.value) (c.text.ensures inputs level)
+pub get_made-returns-in_ok-text-in-Text : goal.get_made-returns-in_ok-text-in-Text
+get_made-returns-in_ok-text-in-Text t c = λ inputs level.
+    rw (ap named c.in-Text.is ∙ named-Text c.in-Text.format c.in-Text.pieces c.in-Text.last, ← c.as_slice.ensures.value, view-Text) (ap (λ q. bind q text_item) (c.in_ok-text-in-Text.ensures inputs level))
+
+pub get_made-returns-in_err-text-in-Text : goal.get_made-returns-in_err-text-in-Text
+get_made-returns-in_err-text-in-Text t c = λ inputs level.
+    rw (ap named c.in-Text.is ∙ named-Text c.in-Text.format c.in-Text.pieces c.in-Text.last, ← c.as_slice.ensures.value) (part_stops _ _ _ _ text_item c.from_residual-in_err-text-in-Text.ensures.1 (c.in_err-text-in-Text.ensures inputs level))
 
 pub get_made-returns-in-Field : goal.get_made-returns-in-Field
 get_made-returns-in-Field t c = λ inputs level.
@@ -60,28 +65,6 @@ binary-returns t c = λ inputs level.
 pub try_catch-returns-in-Err-Raised : goal.try_catch-returns-in-Err-Raised
 unfolding on_error
 try_catch-returns-in-Err-Raised t c = λ inputs level. rw ((rw c.in-Err-Raised.field-0-is at c.in-Err-Raised.ensures) inputs level, on_error) (c.get-in-Err-Raised.ensures inputs level)
-
-pub decided-returns-then-truth-by : goal.decided-returns-then-truth-by
-decided-returns-then-truth-by t c = λ inputs level.
-    rw view-Bool (decided_by c.args.self.now inputs level _ _ _ c.args.by _ _ (c.in_ok-first.ensures inputs level) (sym c.truth.ensures) c.if-truth-by.true)
-
-pub decided-returns : goal.decided-returns
-decided-returns t c = λ inputs level.
-    rw view-Bool
-    (decided_else c.args.self.now inputs level _ _ _ c.args.by _ _ (c.in_ok-first.ensures inputs level) (sym c.truth.ensures) c.if-truth-by.false ∙ truth_of _ _ _ (c.in_ok-second.ensures inputs level) c.truth-2.ensures)
-
-pub decided-returns-in_err-first : goal.decided-returns-in_err-first
-decided-returns-in_err-first t c = λ inputs level.
-    stops _ _ _ _ c.from_residual.ensures.1 (decided_stops c.args.self.now inputs level (named c.args.left.now) (named c.args.right.now) (view c.args.value.now) c.args.by _ (c.in_err-first.ensures inputs level))
-
-pub decided-returns-in_err-second : goal.decided-returns-in_err-second
-decided-returns-in_err-second t c = λ inputs level.
-    let s = c.in_err-second.field-0.0 in
-    stops _ _ s _ c.from_residual-in_err-second.ensures.1
-    (subst (Ends s) (sym (decided_else c.args.self.now inputs level (named c.args.left.now) (named c.args.right.now) (view c.args.value.now) c.args.by _ _ (c.in_ok-first.ensures inputs level) (sym c.truth.ensures) c.if-truth-by.false))
-    (ends-bind s _ truth (c.in_err-second.ensures inputs level)))
-
--- ---- outputs that replace the input
 
 pub change_builtin-returns-in-Native-clause-runs : goal.change_builtin-returns-in-Native-clause-runs
 change_builtin-returns-in-Native-clause-runs t c = λ inputs level. rw (c.in-Native.is, native_plain) (c.change_native.ensures.runs inputs level)

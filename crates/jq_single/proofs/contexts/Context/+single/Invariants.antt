@@ -48,8 +48,11 @@ decreases-negation l = 32 * l.self.now.fuel + 3
 abbrev pub decreases-array : goal.decreases-array
 decreases-array l = 32 * l.self.now.fuel + 11
 
-abbrev pub decreases-decided : goal.decreases-decided
-decreases-decided l = 32 * l.self.now.fuel + 4
+abbrev pub decreases-conjunction : goal.decreases-conjunction
+decreases-conjunction l = 32 * l.self.now.fuel + 3
+
+abbrev pub decreases-disjunction : goal.decreases-disjunction
+decreases-disjunction l = 32 * l.self.now.fuel + 3
 
 abbrev pub decreases-alternative : goal.decreases-alternative
 decreases-alternative l = 32 * l.self.now.fuel + 3
@@ -68,9 +71,6 @@ decreases-computed l = 32 * l.self.now.fuel + 8
 
 abbrev pub decreases-member : goal.decreases-member
 decreases-member l = 32 * l.self.now.fuel + 6
-
-abbrev pub decreases-text : goal.decreases-text
-decreases-text l = 32 * l.self.now.fuel + 12
 
 abbrev pub decreases-pieces : goal.decreases-pieces
 decreases-pieces l = 32 * l.self.now.fuel + 11
