@@ -256,7 +256,7 @@ def run_program_tests(name, *words):
 def lanes():
     """How many crates `rt ci` proves side by side: RT_JOBS, else one a processor, and as many as memory holds.
 
-    Left to itself `rt ci` allows each crate more than twice the memory that it takes, so that a processor in four has nothing to do.
+    With RT_JOBS `rt ci` does not wait for the memory that it expects a check to take, which for several crates is more than it takes.
     """
     kit = build.load_kit()
     return os.environ.get("RT_JOBS") or str(max(1, min(kit.processors(), kit.free() // LANE)))
@@ -305,7 +305,7 @@ def main():
     passed = failed = 0
     program = str(pathlib.Path(given.program).resolve())
     if given.gate:
-        counts = [check_believed(), run_gate(), run_program_tests("growth.py")]
+        counts = [check_believed(), run_program_tests("edits.py", "--check"), run_gate(), run_program_tests("growth.py")]
         program = str(ROOT / "crates" / "jql" / "out" / "jql")
         if pathlib.Path(program).is_file():
             counts.append(compare_with_dist(program))
