@@ -84,7 +84,7 @@ impl<'a, 'p> Around<'a, 'p> {
         ensures { IfOk result (λ o. IfSome o (HasPaths (path_run self.now (named tree.now) scope (view value.now)))) }
     {
         let mut apart = self.state_apart()?;
-        let mut next = Next::Evaluate(tree, scope, Item::start(self.alloc, value)?);
+        let mut next = Next::Evaluate(tree, scope, Item::start(value.copy()?));
         let nesting = self.nesting - 1;
         let mut paths = Vec::new(self.alloc);
         'paths: for _ in 0..PATHS {

@@ -18,7 +18,7 @@ use crate::named_builtins::Builtin;
 use jq_ast::Tree;
 use jq_state::frames::Scope;
 use jq_state::inputs::Inputs;
-use jq_state::items::{Item, Path};
+use jq_state::items::Item;
 use jq_state::next::Next;
 use jq_state::states::State;
 use jq_state::steps::{self, Operation, Step};
@@ -45,7 +45,7 @@ pub(crate) fn enter_builtin<'p>(
     }
     match builtin {
         Builtin::NoOutputs => Ok(Next::GoBack),
-        Builtin::Paths => enter_paths(alloc, state, arguments, scope, value),
+        Builtin::Paths => enter_paths(state, arguments, scope, value),
         Builtin::Range => {
             let input = Item { value, path };
             first_argument(alloc, state, steps::Builtin::Range, arguments, scope, input)
@@ -85,7 +85,6 @@ fn first_argument<'p>(
 
 // `path(f)`: f is run on the value with the empty path, and a frame turns its outputs into their paths.
 fn enter_paths<'p>(
-    alloc: Global,
     state: &mut State<'p>,
     arguments: &'p [Tree],
     scope: Scope,
@@ -98,8 +97,7 @@ fn enter_paths<'p>(
         [] => Ok(Next::GoBack),
         [filter, ..] => {
             state.push(Step::Operation(Operation::PathValue), scope)?;
-            let path = Path::empty(alloc)?;
-            Ok(Next::Evaluate(filter, scope, Item { value, path }))
+            Ok(Next::Evaluate(filter, scope, Item::start(value)))
         }
     }
 }

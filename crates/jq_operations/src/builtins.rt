@@ -58,7 +58,7 @@ fn part_at_path(alloc: Global, item: Item, arguments: &[Val]) -> Result<Outputs,
     match call(alloc, Native::GetPath, &value, arguments) {
         Ok(value) => Ok(Outputs::One(Item {
             value,
-            path: longer_path(path, arguments)?,
+            path: longer_path(alloc, path, arguments)?,
         })),
         Err(Fail::Raised(error)) => Ok(Outputs::Error(error)),
         Err(Fail::NoMemory) => Err(NoMemory),
@@ -66,30 +66,30 @@ fn part_at_path(alloc: Global, item: Item, arguments: &[Val]) -> Result<Outputs,
 }
 
 // The path, followed by the keys of the first argument.
-fn longer_path(path: Path, arguments: &[Val]) -> Result<Path, NoMemory>
+fn longer_path(alloc: Global, path: Path, arguments: &[Val]) -> Result<Path, NoMemory>
     ensures { IfOk result (λ p. keys_of p ≡ path_with (keys_of path) (map view arguments.now)) }
 {
     match arguments {
         [] => Ok(path),
-        [keys, ..] => with_keys_in(path, keys),
+        [keys, ..] => with_keys_in(alloc, path, keys),
     }
 }
 
-fn with_keys_in(path: Path, keys: &Val) -> Result<Path, NoMemory>
+fn with_keys_in(alloc: Global, path: Path, keys: &Val) -> Result<Path, NoMemory>
     ensures { IfOk result (λ p. keys_of p ≡ option_map (λ ks. ks ++ values_in_array (view keys.now)) (keys_of path)) }
 {
     match keys {
-        Val::List(keys) => with_keys(path, keys.as_slice()),
+        Val::List(keys) => with_keys(alloc, path, keys.as_slice()),
         _ => Ok(path),
     }
 }
 
-fn with_keys(mut path: Path, keys: &[Val]) -> Result<Path, NoMemory>
+fn with_keys(alloc: Global, mut path: Path, keys: &[Val]) -> Result<Path, NoMemory>
     ensures { IfOk result (λ p. keys_of p ≡ option_map (λ ks. ks ++ map view keys.now) (keys_of path)) }
 {
     if path.is_present() {
         for key in keys {
-            path.push(key.copy()?)?;
+            path.push(alloc, key.copy()?)?;
         }
     }
     Ok(path)

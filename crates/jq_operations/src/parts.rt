@@ -28,7 +28,7 @@ pub(crate) fn part_at(
 {
     let Item { value, path } = item;
     match index(alloc, &value, key) {
-        Ok(part) => Ok(Outputs::One(located(part, path, key)?)),
+        Ok(part) => Ok(Outputs::One(located(alloc, part, path, key)?)),
         Err(Fail::Raised(error)) => Ok(refused(guarded, error)),
         Err(Fail::NoMemory) => Err(NoMemory),
     }
@@ -46,11 +46,11 @@ pub(crate) fn every_part(alloc: Global, guarded: bool, item: Item) -> Result<Out
 }
 
 // A part as an item; its path, if there is one, is extended by the key.
-fn located(part: Val, mut path: Path, key: &Val) -> Result<Item, NoMemory>
+fn located(alloc: Global, part: Val, mut path: Path, key: &Val) -> Result<Item, NoMemory>
     ensures { IfOk result (λ x. item_of x ≡ item_at (view part) (option_map (λ ks. ks ++ view key.now ∷ []) (keys_of path))) }
 {
     if path.is_present() {
-        path.push(key.copy()?)?;
+        path.push(alloc, key.copy()?)?;
     }
     Ok(Item { value: part, path })
 }
@@ -89,7 +89,7 @@ fn located_items(
 {
     let mut items = Vec::with_capacity(alloc, parts.len())?;
     while let (Some(key), Some(part)) = (keys.pop(), parts.pop()) {
-        items.push(located(part, path.copy()?, &key)?)?;
+        items.push(located(alloc, part, path.copy()?, &key)?)?;
     }
     Ok(items)
 }

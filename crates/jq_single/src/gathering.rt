@@ -462,7 +462,7 @@ impl<'s> Context<'s> {
     {
         match arguments {
             [argument] => {
-                let start = Item::start(self.alloc, value)?;
+                let start = Item::start(value.copy()?);
                 let next = Rest::Path(&*rest);
                 (&*self).gather(&*argument, &start, &next, into)
             }

@@ -80,7 +80,7 @@ impl<'s> Context<'s> {
     fn paths_of(&self, tree: &'s Tree, value: &Val) -> Result<Vec<Val>, Stop>
         ensures { IfOk result (λ paths. FindsPaths self.now (named tree.now) (view value.now) (map view paths.items)) }
     {
-        let start = Item::start(self.alloc, value)?;
+        let start = Item::start(value.copy()?);
         let end = Rest::End(MOST);
         let path = Rest::Path(&end);
         let mut paths = Vec::new(self.alloc);

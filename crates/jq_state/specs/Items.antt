@@ -1,5 +1,5 @@
 -- The item of the meaning that an item represents.
-use Rattle.std.specs.Prelude.{List, Option, Some, None}
+use Rattle.std.specs.Prelude.{List, [], Option, Some, None}
 use Rattle.jv_data.specs.Held.{values_in}
 use Rattle.jv_data.specs.Value.{Value}
 use Rattle.jv_data.specs.View.{view}
@@ -11,6 +11,7 @@ use Rattle.jq_state.specs.declared.items.Path.TheVariants as path
 
 abbrev pub keys_of : Path → Option (List Value)
 keys_of path.Absent = None
+keys_of path.Empty = Some []
 keys_of (path.Keys ks) = Some (values_in ks)
 
 abbrev pub item_at : Value → Option (List Value) → runs.Item

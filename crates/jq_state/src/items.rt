@@ -1,5 +1,5 @@
 // Items: a value, and inside `path(f)` its path.
-ghost use Rattle.std.specs.Prelude.{◌≡◌, ◌++◌, ◌∷◌, [], IfOk, OnOk, Some, None, option_map, is_some, unwrap_or};
+ghost use Rattle.std.specs.Prelude.{◌≡◌, ◌++◌, ◌∷◌, [], IfOk, OnOk, option_map, is_some, unwrap_or};
 ghost use Rattle.jv_data.specs.Value.{array, items_of};
 ghost use Rattle.jv_data.specs.View.{view};
 ghost use Rattle.jq_meaning.specs.Runs.{plain, located, value_in, path_of};
@@ -12,6 +12,8 @@ use std::alloc::Global;
 pub enum Path {
     /// Outside of `path(f)`.
     Absent,
+    /// That of the input of `path(f)`.
+    Empty,
     Keys(Array<Val>),
 }
 
@@ -20,6 +22,7 @@ impl Drop for Path {
     fn drop(self) {
         match self {
             Path::Absent => {}
+            Path::Empty => {}
             Path::Keys(_) => {}
         }
     }
@@ -33,19 +36,13 @@ pub struct Item {
 }
 
 impl Path {
-    /// The path of the input of `path(f)`.
-    pub fn empty(alloc: Global) -> Result<Path, NoMemory>
-        ensures { IfOk result (λ p. keys_of p ≡ Some []) }
-    {
-        Ok(Path::Keys(Array::from_vec(alloc, Vec::new(alloc))?))
-    }
-
     /// An equal path. Nothing is allocated.
     pub fn copy(&self) -> Result<Path, NoMemory>
         ensures { IfOk result (λ p. keys_of p ≡ keys_of self.now) }
     {
         match self {
             Path::Absent => Ok(Path::Absent),
+            Path::Empty => Ok(Path::Empty),
             Path::Keys(keys) => Ok(Path::Keys(keys.share()?)),
         }
     }
@@ -55,16 +52,22 @@ impl Path {
     {
         match self {
             Path::Absent => false,
+            Path::Empty => true,
             Path::Keys(_) => true,
         }
     }
 
     /// Adds a key at the end of the path, if there is a path.
-    pub fn push(&mut self, key: Val) -> Result<(), NoMemory>
+    pub fn push(&mut self, alloc: Global, key: Val) -> Result<(), NoMemory>
         ensures { OnOk result (keys_of self.new ≡ option_map (λ ks. ks ++ view key ∷ []) (keys_of self.old)) }
     {
-        if let Path::Keys(keys) = self {
-            keys.push(key)?;
+        match self {
+            Path::Absent => {}
+            Path::Empty => {
+                let keys = Array::from_vec(alloc, vec![in alloc; key]?)?;
+                *self = Path::Keys(keys);
+            }
+            Path::Keys(keys) => keys.push(key)?,
         }
         Ok(())
     }
@@ -74,8 +77,8 @@ impl Path {
         ensures { IfOk result (λ v. view v ≡ array (items_of (unwrap_or (keys_of self) []))) }
     {
         match self {
-            Path::Absent => Ok(Val::List(Array::from_vec(alloc, Vec::new(alloc))?)),
             Path::Keys(keys) => Ok(Val::List(keys)),
+            _ => Ok(Val::List(Array::from_vec(alloc, Vec::new(alloc))?)),
         }
     }
 }
@@ -91,12 +94,13 @@ impl Item {
     }
 
     /// A value with an empty path: the input of `path(f)`.
-    pub fn start(alloc: Global, value: &Val) -> Result<Item, NoMemory>
-        ensures { IfOk result (λ x. item_of x ≡ located (view value.now) []) }
+    pub fn start(value: Val) -> Item
+        ensures { item_of result ≡ located (view value) [] }
     {
-        let value = value.copy()?;
-        let path = Path::empty(alloc)?;
-        Ok(Item { value, path })
+        Item {
+            value,
+            path: Path::Empty,
+        }
     }
 
     /// An equal item. Nothing is allocated.

@@ -97,7 +97,7 @@ apart::Around::first_output-returns t c =
 
 pub apart::Around::paths_apart-paths-init : goal.apart::Around::paths_apart-paths-init
 apart::Around::paths_apart-paths-init t c =
-    let start = c.in_ok-apart.ensures (named c.args.tree.now) c.args.scope (item_of c.in_ok-start.field-0) (located (view c.args.value.now) []) c.requires.env c.in_ok-start.ensures in
+    let start = c.in_ok-apart.ensures (named c.args.tree.now) c.args.scope (item_of c.start.result) (located (view c.args.value.now) []) c.requires.env (c.start.ensures ∙ ap (λ v. located v []) c.in_ok-copy.ensures) in
     record { ready = ∣ (start.there, start.fit) ∣₁; left = none_yet start.produces (ap (map view) c.new-paths.ensures.items) }
 
 pub apart::Around::paths_apart-run-requires : goal.apart::Around::paths_apart-run-requires

@@ -14,4 +14,4 @@ returns-in-Ok c =
 pub returns-in-Err-Raised : goal.returns-in-Err-Raised
 returns-in-Err-Raised c =
     let x = c.args.item in
-    path_refused (view x.value) (keys_of x.path) (map view c.args.arguments.now) (view c.in-Err-Raised.error) (raised_as c.in-Err-Raised.field-0 c.in-Err-Raised.error _ c.in-Err-Raised.field-0-is c.in-Err-Raised.ensures)
+    rw c.in-Err-Raised.field-0-is (path_refused (view x.value) (keys_of x.path) (map view c.args.arguments.now) (view c.in-Err-Raised.error) (raised_as c.in-Err-Raised.field-0 c.in-Err-Raised.error _ c.in-Err-Raised.field-0-is c.in-Err-Raised.ensures))

@@ -16,4 +16,4 @@ pub returns-in-Err-Raised : goal.returns-in-Err-Raised
 unfolding on_target
 returns-in-Err-Raised c =
     let x = c.args.item in
-    c.refused.ensures ∙ step_refused c.args.guarded (view x.value) (keys_of x.path) (view c.args.key.now) (view c.in-Err-Raised.error) (raised_as c.in-Err-Raised.field-0 c.in-Err-Raised.error _ c.in-Err-Raised.field-0-is c.in-Err-Raised.ensures)
+    (rw c.in-Err-Raised.field-0-is at c.refused.ensures) ∙ step_refused c.args.guarded (view x.value) (keys_of x.path) (view c.args.key.now) (view c.in-Err-Raised.error) (raised_as c.in-Err-Raised.field-0 c.in-Err-Raised.error _ c.in-Err-Raised.field-0-is c.in-Err-Raised.ensures)

@@ -151,11 +151,12 @@ gather_builtin-returns-in-NoOutputs t c = λ inputs level. rw c.in-NoOutputs.is 
 pub gather_builtin-returns-in-Err : goal.gather_builtin-returns-in-Err
 gather_builtin-returns-in-Err t c = λ inputs level. c.ended.ensures inputs level c.args.rest.now _ c.args.into.now.items (ends-bind _ _ _ (rw (c.in_ok-found-in_default-builtin.ensures, ← absent c.args.item.now (sym c.is_present.ensures ∙ c.if-is_present.false)) at (c.in-Err.ensures.runs inputs level)))
 
-pub gather_paths-returns-in_ok-start-in-len1 : goal.gather_paths-returns-in_ok-start-in-len1
-gather_paths-returns-in_ok-start-in-len1 t c = λ inputs level.
+pub gather_paths-returns-in_ok-copy-in-len1 : goal.gather_paths-returns-in_ok-copy-in-len1
+gather_paths-returns-in_ok-copy-in-len1 t c = λ inputs level.
+    let start = c.start-start.ensures ∙ ap (λ v. located v []) c.in_ok-copy-in-len1.ensures in
     let only : length c.args.arguments.now ≡ 1 = omega (arith, c.in-len1.len_at_least, c.in-len1.len_below) in
     subst (Gathers (made inputs level c.args.rest.now) c.gather.result c.args.into.now.items c.gather.new.into.items)
-    (sym (paths_run c.args.self.now inputs level c.args.arguments.now c.argument-item.result (view c.args.value.now) (item_of c.in_ok-start-in-len1.start) (rest_run inputs level c.args.rest.now) only c.argument-item.is c.in_ok-start-in-len1.ensures))
+    (sym (paths_run c.args.self.now inputs level c.args.arguments.now c.argument-item.result (view c.args.value.now) (item_of c.start-start.result) (rest_run inputs level c.args.rest.now) only c.argument-item.is start))
     (c.gather.ensures inputs level)
 
 pub give_all-returns : goal.give_all-returns
@@ -284,7 +285,7 @@ pub paths_of-returns : goal.paths_of-returns
 paths_of-returns t c = λ inputs level.
     let go : Item → Run Item = run c.args.self.now inputs level (named c.args.tree.now) in
     let r : Run Item = path_run c.args.self.now inputs level (named c.args.tree.now) (view c.args.value.now) in
-    let added = ap (λ (x : Item). bind (go x) (λ y. bind (path_item y) one)) c.in_ok-start.ensures ∙ sym (paths-rest (go (located (view c.args.value.now) [])) one) in
+    let added = ap (λ (x : Item). bind (go x) (λ y. bind (path_item y) one)) (c.start-start.ensures ∙ ap (λ v. located v []) c.in_ok-copy.ensures) ∙ sym (paths-rest (go (located (view c.args.value.now) [])) one) in
     gathered_same r.items r.ending (map view c.gather.new.into.items)
     (gathered_list inputs level 1048576 (tt {0}) c.new-paths.result.items c.gather.new.into.items r c.new-paths.ensures.items
     (subst (Gathers (made inputs level (rest.End 1048576)) (Ok (tt {0})) c.new-paths.result.items c.gather.new.into.items) added (c.in_ok-gather.ensures inputs level)))
