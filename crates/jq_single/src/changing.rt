@@ -267,12 +267,12 @@ impl<'s> Context<'s> {
         match arguments {
             [] => call_on(self.alloc, native, value, &[]),
             [argument] => {
-                let only = self.get(argument, value)?;
+                let only = self.get_part(argument, value)?;
                 call_on(self.alloc, native, value, &[only])
             }
             [first, second] => {
-                let one = self.get(first, value)?;
-                let other = self.get(second, value)?;
+                let one = self.get_part(first, value)?;
+                let other = self.get_part(second, value)?;
                 call_on(self.alloc, native, value, &[one, other])
             }
             _ => Err(Stop::Unknown),
