@@ -203,10 +203,8 @@ fn put(alloc: Global, value: &mut Val, path: &Val, part: Val) -> Result<Option<E
 {
     let taken = replace(value, Val::Null);
     let arguments = [path.copy()?, part];
-    take_answer(
-        value,
-        call_in_place(alloc, Native::SetPath, taken, &arguments),
-    )
+    let answer = call_in_place(alloc, Native::SetPath, taken, &arguments);
+    take_answer(value, answer)
 }
 
 // A path is added to a list.
@@ -224,10 +222,8 @@ fn delete(alloc: Global, value: &mut Val, listed: Val) -> Result<Option<Ending>,
     ensures { IfOk result (λ o. TakesAnswer o (view value.new) (delpaths_native_of (view value.old) (view listed))) }
 {
     let taken = replace(value, Val::Null);
-    take_answer(
-        value,
-        call_in_place(alloc, Native::DelPaths, taken, &[listed]),
-    )
+    let answer = call_in_place(alloc, Native::DelPaths, taken, &[listed]);
+    take_answer(value, answer)
 }
 
 // An answer takes the place of a value. An error ends the update.

@@ -43,11 +43,8 @@ pub fn goes_over_all(tree: &Tree) -> bool {
 pub fn pays_for_copy(input: &Val, values: &[Val]) -> bool {
     match values {
         [Val::List(path), ..] => {
-            let most = values
-                .len()
-                .saturating_mul(FOR_EACH)
-                .saturating_add(FOR_ALL);
-            size_along(input, path.as_slice()) <= most
+            let steps = values.len().saturating_mul(FOR_EACH);
+            size_along(input, path.as_slice()) <= steps.saturating_add(FOR_ALL)
         }
         [] => true,
         _ => false,
