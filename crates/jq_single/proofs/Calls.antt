@@ -1,9 +1,11 @@
 -- What calls find and run, and what is claimed of natives, of paths and of comparisons of `type`.
-use Rattle.std.proofs.Common.{◌≡◌, ◌∙◌, ℕ, List, [], ◌∷◌, map, length, get_or, refl, sym, ap, subst, arith, ◌<◌, Bool, true, false, ◌&&◌, if◌then◌else◌, nat_eq, ◌+◌, add-one, Option, Some, None, IfSome, Ok, codes}
+use Rattle.std.proofs.Common.{◌≡◌, ◌∙◌, ℕ, List, [], ◌∷◌, map, length, get_or, refl, sym, ap, subst, arith, ◌<◌, Bool, true, false, ◌&&◌, if◌then◌else◌, nat_eq, ◌+◌, add-one, Option, Some, None, IfSome, Ok}
 use Rattle.jv_data.specs.Value.{Value, string, boolean}
 use Rattle.jq_ast.specs.Named.{named, named_member, named_pattern, named_tree}
 use Rattle.jq_natives.specs.declared.native.Native.{Native}
-use Rattle.jq_natives.specs.declared.native.Native.TheVariants.{GetPath}
+use Rattle.jq_natives.specs.declared.native.Native.TheVariants.{GetPath, TypeName}
+use Rattle.jq_operations.specs.Language.{meaning_of}
+use Rattle.jq_operations.specs.declared.named_builtins.Builtin.TheVariants as builtin
 use Rattle.jq_tree.specs.Tree.{trees_of, Name, Trees, no_trees, more_trees, Tree, trees_count, Operator, binary, call, literal}
 use Rattle.jq_meaning.specs.Builtins.{each_choice, native_run, plain_native, Builtin, builtin_named, builtin_run, paths}
 use Rattle.jq_meaning.specs.Meaning.{arguments_with, below, called, meaning}
@@ -129,9 +131,9 @@ prelude_outside inputs n count (scope.Call' p own ps ts q caller) =
     subst (λ (x : Callee). callee_or (find_in_prelude n count (scope_env inputs (scope.Run (outside_in own)))) x ≡ x)
     (sym (past (find_in_prelude n count) (λ p t c e. refl) (map text_of ps.now) (trees_of (map named ts.now)) (scope_env inputs caller) (scope_env inputs own))) (prelude_outside inputs n count own)
 
-pub prelude_runs : (p : Context) (inputs : Run Value) (level : ℕ) (n : Name) (ts : List ast.Tree) (f : Function ast.Tree) (own : Scope) (x : Item)
-    → callees.found f (scope_env inputs own) ≡ find_in_prelude n (length ts) (scope_env inputs p.scope.now)
-    → run p inputs level (tree.prelude_call n (trees_of (map named ts))) x ≡ below p.depth (named f.body) (with_arguments (map text_of f.parameters.items) (trees_of (map named ts)) (scope_env inputs p.scope.now) (scope_env inputs own)) level x
+pub prelude_runs : (p : Context) (inputs : Run Value) (level : ℕ) (n : Name) (ts : List ast.Tree) (f : Function ast.Tree) (own : Env) (x : Item)
+    → callees.found f own ≡ find_in_prelude n (length ts) (scope_env inputs p.scope.now)
+    → run p inputs level (tree.prelude_call n (trees_of (map named ts))) x ≡ below p.depth (named f.body) (with_arguments (map text_of f.parameters.items) (trees_of (map named ts)) (scope_env inputs p.scope.now) own) level x
 prelude_runs p inputs level n ts f own x h =
     let us = trees_of (map named ts) in
     let e = scope_env inputs p.scope.now in
@@ -165,18 +167,19 @@ told p inputs level op t l v w b h k =
     ∙ ap (answered plain) k
 
 -- the output of `type`
-kind_run : (p : Context) (inputs : Run Value) (level : ℕ) (n : Name) (v : Value) → n ≡ codes "type" → find_callee n 0 (scope_env inputs p.scope.now) ≡ no_callee
-    → run p inputs level (call n no_trees) (plain v) ≡ one (plain (string (kind_name v)))
-kind_run p inputs level n v e h =
-    builtin_runs p inputs level n [] (builtin_named n 0) (plain v) (sym h) refl ∙ ap (λ m. builtin_in p inputs level (builtin_named m 0) no_trees (plain v)) e
+pub type_run : (p : Context) (inputs : Run Value) (level : ℕ) (ts : List ast.Tree) (v : Value) → length ts < 1
+    → builtin_in p inputs level (meaning_of (builtin.Native TypeName)) (trees_of (map named ts)) (plain v) ≡ one (plain (string (kind_name v)))
+type_run p inputs level [] v h = refl
+type_run p inputs level (t ∷ ts) v h = absurd (omega (arith, h))
 
-pub kind_told : (p : Context) (op : Operator) (t u : Tree) (n : Name) (l : tree.Literal) (v : Value) (r : Option Bool) → t ≡ call n no_trees → u ≡ literal l → n ≡ codes "type"
-    → ((inputs : Run Value) → find_callee n 0 (scope_env inputs p.scope.now) ≡ no_callee)
+-- a comparison of it
+pub kind_told : (p : Context) (op : Operator) (t u : Tree) (l : tree.Literal) (v : Value) (r : Option Bool) → u ≡ literal l
+    → ((inputs : Run Value) (level : ℕ) → run p inputs level t (plain v) ≡ one (plain (string (kind_name v))))
     → IfSome r (λ b. operator_of op (string (kind_name v)) (value_of_literal l) ≡ yes_or_no b) → IfSome r (λ b. RunsTo p (binary op t u) v (Ok (val.Bool b)))
-kind_told p op t u n l v None e d f g h = tt
-kind_told p op t u n l v (Some b) e d f g h = λ inputs level.
-    ap (λ z. run p inputs level (binary op t z) (plain v)) d ∙ ap (λ z. run p inputs level (binary op z (literal l)) (plain v)) e
-    ∙ told p inputs level op (call n no_trees) l v (string (kind_name v)) b (kind_run p inputs level n v f (g inputs)) h ∙ ap (λ (w : Value). one (plain w)) (sym (view-Bool b))
+kind_told p op t u l v None d g h = tt
+kind_told p op t u l v (Some b) d g h = λ inputs level.
+    ap (λ z. run p inputs level (binary op t z) (plain v)) d
+    ∙ told p inputs level op t l v (string (kind_name v)) b (g inputs level) h ∙ ap (λ (w : Value). one (plain w)) (sym (view-Bool b))
 
 pub paths-rest : (r : Run Item) (later : Item → Run Item) → bind (paths_in r) later ≡ bind r (λ x. bind (path_item x) later)
 paths-rest r later = ap (λ q. bind q later) (paths-bind r) ∙ bind-bind r path_item later

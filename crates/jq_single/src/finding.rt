@@ -1,16 +1,16 @@
 // What a name is bound to in a scope, and comparisons of the name of a value's kind with a constant, for which no text is made.
-ghost use Rattle.std.specs.Prelude.{◌≡◌, IfOk, IsTrue, map, codes, IfSome, Ok};
+ghost use Rattle.std.specs.Prelude.{◌≡◌, IfOk, IsTrue, length, map, IfSome, None, Ok};
 ghost use Rattle.jv_data.specs.Value.{Value, string};
 ghost use Rattle.jv_data.specs.View.{view};
 ghost use Rattle.jq_ast.specs.Named.{name_of, named};
 ghost use Rattle.jq_tree.specs.Tree.{trees_of};
 ghost use Rattle.jq_meaning.specs.Runs.{Run};
-ghost use Rattle.jq_state.specs.Environments.{count_of, envs_of};
+ghost use Rattle.jq_state.specs.Environments.{envs_of};
+ghost use Rattle.jq_state.specs.Nodes.{env_at};
 ghost use Rattle.jq_single.specs.private.Scopes.{outside_in, scope_env};
-ghost use Rattle.jq_single.specs.private.Finds.{FindsBound, FindsInPrelude, found_in};
-ghost use Rattle.jq_single.specs.private.Parts.{Calls, RunsTo};
+ghost use Rattle.jq_single.specs.private.Finds.{FindsBound};
+ghost use Rattle.jq_single.specs.private.Parts.{Calls, IsBodyOf, RunsTo};
 ghost use Rattle.jq_meaning.specs.updates.Known.{HasModify};
-ghost use Rattle.jq_operations.specs.Callees.{CalleeFits, callee_in};
 ghost use Rattle.jv_data.specs.Kind.{kind_name};
 ghost use Rattle.jv_data.specs.Shared.{text_in};
 ghost use Rattle.jq_ast.specs.Leaves.{operator_of};
@@ -24,18 +24,10 @@ use crate::contexts::Context;
 use crate::scopes::{Outside, Scope};
 use jq_ast::{Function, Name, Operator, Tree};
 use jq_meaning::updates::the_preludes_update_stays;
+use jq_natives::Native;
 use jq_operations::{Builtin, Callee, builtin_named, find_callee, find_in_prelude, find_value};
-use jq_state::environments::Nodes;
 use jq_state::names::{is_function, is_text};
 use jv_data::{NoMemory, SharedText, Val, kind_name};
-
-/// What a name finds: a function, with the scope that begins with its own binding, or a filter that was passed, with its own scope.
-#[derive(Clone, Copy)]
-pub(crate) enum Found<'s> {
-    Function(&'s Function<Tree>, Scope<'s>),
-    Closure(&'s Tree, Scope<'s>),
-    Nothing,
-}
 
 /// What a call runs: a body, with its parameters, the scope outside of them and its arguments, or a name of the language.
 #[derive(Clone, Copy)]
@@ -61,31 +53,64 @@ impl<'s> Context<'s> {
         }
     }
 
-    // What `a(f; g)` runs.
-    #[inline(always)]
+    // What `a(f; g)` runs: the innermost function or parameter with this name and this number of arguments, or a name of the language.
     fn called_by_name(&self, name: &Name, arguments: &'s [Tree]) -> Called<'s>
         ensures { Calls self.now (form.call (name_of name.now) (trees_of (map named arguments.now))) result }
     {
-        let count = arguments.len();
-        match callee_of(self.scope, name, count) {
-            Found::Function(function, own) => {
-                let parameters = function.parameters.as_slice();
-                Called::Body(&function.body, parameters, own, arguments)
+        let mut scope = self.scope;
+        'scopes: loop {
+            match scope {
+                Scope::Run(outside) => return self.called_in_run(*outside, name, arguments),
+                Scope::Value(outer, _, _) => scope = outer,
+                Scope::Function(outer, function) => {
+                    if is_function(function, name, arguments.len()) {
+                        return body_of(function, *scope, arguments);
+                    }
+                    scope = outer;
+                }
+                Scope::Call(own, parameters, bound, caller) => {
+                    if arguments.is_empty() {
+                        if let Some(argument) = argument_of(parameters, bound, name) {
+                            return Called::Body(argument, &[], **caller, arguments);
+                        }
+                    }
+                    scope = own;
+                }
             }
-            Found::Closure(body, own) => Called::Body(body, &[], own, arguments),
-            Found::Nothing => Called::Builtin(builtin_named(name.text.as_str(), count), arguments),
         }
     }
 
-    // What a call of the prelude's own function runs.
-    #[inline(always)]
+    // The same where no scope outside of the run's environment has the name.
+    fn called_in_run(&self, outside: Outside<'s>, name: &Name, arguments: &'s [Tree]) -> Called<'s>
+        requires { (inputs : Run Value) → meaning.find_callee (name_of name.now) (length arguments.now) (env_at (envs_of inputs outside.nodes.now) outside.env) ≡ meaning.find_callee (name_of name.now) (length arguments.now) (scope_env inputs self.now.scope.now) }
+        ensures { Calls self.now (form.call (name_of name.now) (trees_of (map named arguments.now))) result }
+    {
+        let nodes = outside.nodes;
+        let count = arguments.len();
+        match find_callee(nodes, name, count, outside.env) {
+            Callee::Function(function, env) => {
+                body_of(function, Scope::Run(Outside { nodes, env }), arguments)
+            }
+            Callee::Closure(body, env) => {
+                Called::Body(body, &[], Scope::Run(Outside { nodes, env }), arguments)
+            }
+            Callee::NoCallee => Called::Builtin(
+                builtin_named(name.text.as_str(), count),
+                arguments,
+            ),
+        }
+    }
+
+    // What a call of the prelude's own function runs, whatever is defined later. If a scope outside of the run's environment would
+    // have to define it, this is unknown.
     fn called_in_prelude(&self, name: &Name, arguments: &'s [Tree]) -> Called<'s>
         ensures { Calls self.now (form.prelude_call (name_of name.now) (trees_of (map named arguments.now))) result }
     {
-        match prelude_of(self.scope, name, arguments.len()) {
-            Found::Function(function, own) => {
-                let parameters = function.parameters.as_slice();
-                Called::Body(&function.body, parameters, own, arguments)
+        let outside = outside_of(self.scope);
+        let nodes = outside.nodes;
+        match find_in_prelude(nodes, name, arguments.len(), outside.env) {
+            Callee::Function(function, env) => {
+                body_of(function, Scope::Run(Outside { nodes, env }), arguments)
             }
             _ => Called::Unknown,
         }
@@ -96,7 +121,7 @@ impl<'s> Context<'s> {
     pub(crate) fn compared(
         &self,
         operator: Operator,
-        left: &Tree,
+        left: &'s Tree,
         right: &Tree,
         value: &Val,
     ) -> Option<bool>
@@ -113,17 +138,20 @@ impl<'s> Context<'s> {
     fn call_compared(
         &self,
         operator: Operator,
-        left: &Tree,
+        left: &'s Tree,
         right: &Tree,
         value: &Val,
     ) -> Option<bool>
         ensures { IfSome result (λ b. RunsTo self.now (form.binary (operator_of operator) (named left.now) (named right.now)) (view value.now) (Ok (val.Bool b))) }
     {
-        let Tree::Literal(constant) = right else {
+        let (Tree::Call(name, _), Tree::Literal(constant)) = (left, right) else {
             return None;
         };
-        match name_alone(left) {
-            Some(name) if is_type(self.scope, name) => {
+        if name.text.as_str() != "type" {
+            return None;
+        }
+        match self.called(left) {
+            Called::Builtin(Builtin::Native(Native::TypeName), []) => {
                 kind_told(operator, value, constant.value())
             }
             _ => None,
@@ -131,58 +159,37 @@ impl<'s> Context<'s> {
     }
 }
 
-// The innermost function or parameter with this name and this number of arguments.
-fn callee_of<'s>(scope: &Scope<'s>, name: &Name, count: usize) -> Found<'s>
-    ensures { (inputs : Run Value) → found_in inputs result ≡ meaning.find_callee (name_of name.now) count (scope_env inputs scope.now) }
+// What a call of a function runs, in the scope that begins with the function's own binding.
+#[inline(always)]
+fn body_of<'s>(function: &'s Function<Tree>, own: Scope<'s>, arguments: &'s [Tree]) -> Called<'s>
+    ensures { IsBodyOf result function.now own.entry arguments.now }
 {
-    let mut scope = scope;
-    'scopes: loop {
-        match scope {
-            Scope::Run(outside) => {
-                let nodes = outside.nodes;
-                return of_the_run(nodes, find_callee(nodes, name, count, outside.env));
-            }
-            Scope::Value(outer, _, _) => scope = outer,
-            Scope::Function(outer, function) => {
-                if is_function(function, name, count) {
-                    return Found::Function(function, *scope);
-                }
-                scope = outer;
-            }
-            Scope::Call(own, parameters, arguments, caller) => {
-                if count == 0 {
-                    if let Some(argument) = argument_of(parameters, arguments, name, None) {
-                        return Found::Closure(argument, **caller);
-                    }
-                }
-                scope = own;
-            }
-        }
-    }
+    Called::Body(
+        &function.body,
+        function.parameters.as_slice(),
+        own,
+        arguments,
+    )
 }
 
-// The argument for the last parameter with this name, or else what was found before.
-fn argument_of<'s>(
-    parameters: &[String],
-    arguments: &'s [Tree],
-    name: &Name,
-    found: Option<&'s Tree>,
-) -> Option<&'s Tree>
-    ensures { FindsBound (name_of name.now) parameters.now arguments.now found.entry result }
+// The argument for the last parameter with this name.
+fn argument_of<'s>(parameters: &[String], arguments: &'s [Tree], name: &Name) -> Option<&'s Tree>
+    ensures { FindsBound (name_of name.now) parameters.now arguments.now None result }
 {
-    match parameters {
-        [parameter, later @ ..] => match arguments {
-            [argument, others @ ..] => {
-                if is_text(name, parameter) {
-                    argument_of(later, others, name, Some(argument))
-                } else {
-                    argument_of(later, others, name, found)
-                }
-            }
-            [] => found,
-        },
-        [] => found,
+    let mut found = None;
+    let mut names = parameters;
+    let mut bound = arguments;
+    'names: while let [parameter, later @ ..] = names {
+        let [argument, others @ ..] = bound else {
+            return found;
+        };
+        if is_text(name, parameter) {
+            found = Some(argument);
+        }
+        names = later;
+        bound = others;
     }
+    found
 }
 
 // The environment of the run in which a scope's bindings are.
@@ -194,30 +201,6 @@ fn outside_of<'s>(scope: &Scope<'s>) -> Outside<'s>
         Scope::Value(outer, _, _) => outside_of(outer),
         Scope::Function(outer, _) => outside_of(outer),
         Scope::Call(own, _, _, _) => outside_of(own),
-    }
-}
-
-// The prelude's own function with this name and this number of arguments, whatever is defined later. If a scope outside of the run's
-// environment would have to define it, nothing is found.
-fn prelude_of<'s>(scope: &Scope<'s>, name: &Name, count: usize) -> Found<'s>
-    ensures { FindsInPrelude (name_of name.now) count scope.now result }
-{
-    let outside = outside_of(scope);
-    let nodes = outside.nodes;
-    of_the_run(nodes, find_in_prelude(nodes, name, count, outside.env))
-}
-
-// What a call finds in an environment of the run.
-fn of_the_run<'s>(nodes: &'s Nodes<'s>, callee: Callee<'s>) -> Found<'s>
-    requires { CalleeFits (count_of nodes.now) callee }
-    ensures { (inputs : Run Value) → found_in inputs result ≡ callee_in (envs_of inputs nodes.now) callee.entry }
-{
-    match callee {
-        Callee::Function(function, env) => {
-            Found::Function(function, Scope::Run(Outside { nodes, env }))
-        }
-        Callee::Closure(body, env) => Found::Closure(body, Scope::Run(Outside { nodes, env })),
-        Callee::NoCallee => Found::Nothing,
     }
 }
 
@@ -246,24 +229,6 @@ pub(crate) fn value_of(scope: &Scope<'_>, name: &Name) -> Result<Val, NoMemory>
         Scope::Function(outer, _) => value_of(outer, name),
         Scope::Call(own, _, _, _) => value_of(own, name),
     }
-}
-
-// The name of a call without arguments.
-fn name_alone(tree: &Tree) -> Option<&Name>
-    ensures { IfSome result (λ n. named tree.now ≡ form.call (name_of n.now) form.no_trees) }
-{
-    match tree {
-        Tree::Call(name, arguments) if arguments.is_empty() => Some(name),
-        _ => None,
-    }
-}
-
-// Whether a name is that of the native `type`: no function and no parameter has this name and no arguments.
-fn is_type(scope: &Scope<'_>, name: &Name) -> bool
-    ensures name { IsTrue result → name_of name.now ≡ codes "type" }
-    ensures unbound { IsTrue result → (inputs : Run Value) → meaning.find_callee (name_of name.now) 0 (scope_env inputs scope.now) ≡ meaning.no_callee }
-{
-    name.text.as_str() == "type" && matches!(callee_of(scope, name, 0), Found::Nothing)
 }
 
 // The result of an operator on the name of a value's kind and a text, if it is `==` or `!=`.

@@ -1,10 +1,12 @@
 -- The outputs of the parts of a filter that has at most one output.
-use Rattle.std.specs.Prelude.{◌≡◌, ℕ, map, Result}
+use Rattle.std.specs.Prelude.{◌≡◌, ℕ, List, map, Result}
 use Rattle.jq_natives.specs.declared.native.Native.{Native}
 use Rattle.jv_data.specs.Value.{Value}
 use Rattle.jv_data.specs.View.{view}
 use Rattle.jv_data.specs.declared.values.Val.{Val}
 use Rattle.jq_ast.specs.Named.{named}
+use Rattle.jq_ast.specs.declared.tree.Function.{Function}
+use Rattle.jq_ast.specs.declared.tree.Tree as ast
 use Rattle.jq_tree.specs.Tree.{Tree, Trees, trees_of}
 use Rattle.jq_meaning.specs.Builtins.{Builtin, builtin_run, each_choice, plain_native}
 use Rattle.jq_meaning.specs.Env.{find_inputs}
@@ -16,6 +18,7 @@ use Rattle.jq_single.specs.private.Scopes.{body_env, scope_env}
 use Rattle.jq_single.specs.declared.finding.Called.{Called}
 use Rattle.jq_single.specs.declared.finding.Called.TheVariants as called
 use Rattle.jq_single.specs.declared.contexts.Context.{Context}
+use Rattle.jq_single.specs.declared.scopes.Scope.{Scope}
 use Rattle.jq_single.specs.declared.stops.Stop.{Stop}
 
 -- A run with one output, or without output.
@@ -55,9 +58,18 @@ ChangesByBuiltin p b ts v w result = (inputs : Run Value) (level : ℕ) → Chan
 abbrev pub ChangesByNative : {A : Type 0} → Context → Native → Trees → (before later : Value) → Result A Stop → Type 0
 ChangesByNative p f ts v w result = (inputs : Run Value) (level : ℕ) → Changed result w (native_in p inputs level f ts v)
 
+-- A call runs a function's body, whose own environment begins with the function's binding.
+abbrev pub RunsBody : Context → Tree → Function ast.Tree → (own : Scope) → List ast.Tree → Type 0
+RunsBody p t f own ts =
+    (inputs : Run Value) (level : ℕ) (x : Item) → run p inputs level t x ≡ below p.depth (named f.body) (body_env f.parameters.items ts (scope_env inputs p.scope.now) (scope_env inputs own)) level x
+
 -- What a call runs is the run of its tree.
 abbrev pub Calls : Context → Tree → Called → Type 0
 Calls p t (called.Body body ps own ts) =
     (inputs : Run Value) (level : ℕ) (x : Item) → run p inputs level t x ≡ below p.depth (named body.now) (body_env ps.now ts.now (scope_env inputs p.scope.now) (scope_env inputs own)) level x
 Calls p t (called.Builtin b ts) = (inputs : Run Value) (level : ℕ) (x : Item) → run p inputs level t x ≡ builtin_in p inputs level (meaning_of b) (trees_of (map named ts.now)) x
 Calls p t called.Unknown = Unit {0}
+
+-- The body of a function is what each call runs whose run is that of the body.
+abbrev pub IsBodyOf : Called → Function ast.Tree → (own : Scope) → List ast.Tree → Type 0
+IsBodyOf called f own ts = (p : Context) (t : Tree) → RunsBody p t f own ts → Calls p t called

@@ -1,28 +1,38 @@
-use Rattle.std.proofs.Common.{◌∙◌, length, ap, sym}
-use Rattle.std.specs.Str.{chars}
+use Rattle.std.proofs.Common.{◌≡◌, ◌∙◌, length, map, ap, sym, refl, rules, arith}
+use Rattle.std.proofs.lemmas.Bool.Decides.{nat_tests}
+use Rattle.jv_data.specs.Text.{text_of}
 use Rattle.jq_ast.specs.Named.{name_of, named}
-use Rattle.jq_meaning.specs.Builtins.{builtin_named}
-use Rattle.jq_meaning.specs.Env.{found_closure}
-use Rattle.jq_meaning.specs.Meaning.{below}
+use Rattle.jq_tree.specs.Tree.{call, trees_of}
+use Rattle.jq_meaning.specs.Env.{find_callee, with_arguments}
 use Rattle.jq_operations.specs.Callees.{found}
-use Rattle.jq_operations.specs.Language.{meaning_of}
-use Rattle.jq_single.specs.private.Scopes.{body_env, scope_env}
-use Rattle.jq_single.proofs.Calls.{builtin_runs, finds}
+use Rattle.jq_single.specs.private.Scopes.{scope_env}
+use Rattle.jq_single.proofs.Calls.{callee_past, finds}
 use Rattle.jq_single.proofs.contexts.Context.called_by_name.Goals as goal
+use Rattle.jq_single.proofs.contexts.Context.called_by_name.Goals.{then-is_empty+in_default, else-is_empty}
 
-pub returns-in-Function : goal.returns-in-Function
-returns-in-Function c = λ inputs level x.
+pub returns-then-is_function : goal.returns-then-is_function
+returns-then-is_function c =
     let p = c.args.self.now in
+    let n = name_of c.args.name.now in
+    let ts = c.args.arguments.now in
     let f = c.in-Function.function.now in
-    let own = scope_env inputs c.in-Function.own in
-    finds p inputs level (name_of c.args.name.now) c.args.arguments.now (found f own) x (c.in-Function.ensures inputs)
-    ∙ ap (λ ps. below p.depth (named f.body) (body_env ps c.args.arguments.now (scope_env inputs p.scope.now) own) level x) (sym c.as_slice-parameters.ensures.value)
+    c.body_of.ensures p (call n (trees_of (map named ts))) (λ inputs level x.
+    let own = scope_env inputs c.scopes.scope.now in
+    let here : found f own ≡ find_callee n (length ts) own = search rules in
+    finds p inputs level n ts (found f own) x (here ∙ c.scopes.invariant inputs))
 
-pub returns-in-Closure : goal.returns-in-Closure
-returns-in-Closure c = λ inputs level x.
-    finds c.args.self.now inputs level (name_of c.args.name.now) c.args.arguments.now (found_closure (named c.in-Closure.body.now) (scope_env inputs c.in-Closure.own)) x (c.in-Closure.ensures inputs)
-
-pub returns-in-Nothing : goal.returns-in-Nothing
-returns-in-Nothing c = λ inputs level x.
-    builtin_runs c.args.self.now inputs level (name_of c.args.name.now) c.args.arguments.now (meaning_of c.builtin_named.result) x (c.in-Nothing.ensures inputs)
-    (c.builtin_named.ensures ∙ ap (λ bs. builtin_named (chars bs) (length c.args.arguments.now)) c.as_str.ensures.value)
+pub scopes-preserved : goal.scopes-preserved
+scopes-preserved c = λ inputs.
+    let n = name_of c.args.name.now in
+    let k = length c.args.arguments.now in
+    let own = scope_env inputs c.in-Call.own.now in
+    let caller = scope_env inputs c.in-Call.caller.now in
+    let bound = with_arguments (map text_of c.in-Call.parameters.now) (trees_of (map named c.in-Call.bound.now)) caller own in
+    let past : find_callee n k own ≡ find_callee n k bound =
+    elim c.if-is_empty.branch [
+      | then-is_empty+in_default w ↦
+          let none : k ≡ 0 = let e = sym c.is_empty.ensures ∙ w.if-is_empty.true in grind (arith, nat_tests) in
+          ap (λ j. find_callee n j own) none ∙ sym ((rw w.in_default.is at w.argument_of.ensures) caller own own refl) ∙ ap (λ j. find_callee n j bound) (sym none)
+      | else-is_empty w ↦ sym (callee_past n k (map text_of c.in-Call.parameters.now) (trees_of (map named c.in-Call.bound.now)) caller own (let e = sym c.is_empty.ensures ∙ w.if-is_empty.false in grind (arith, nat_tests)))
+    ] in
+    past ∙ ap (λ s. find_callee n k (scope_env inputs s)) (sym c.in-Call.is) ∙ c.scopes.invariant inputs
