@@ -81,6 +81,7 @@ impl<'s> Context<'s> {
     }
 
     // The same where no scope outside of the run's environment has the name.
+    #[tactic(auto, using(crate::proofs::Calls::builtin_runs))]
     fn called_in_run(&self, outside: Outside<'s>, name: &Name, arguments: &'s [Tree]) -> Called<'s>
         requires { (inputs : Run Value) → meaning.find_callee (name_of name.now) (length arguments.now) (env_at (envs_of inputs outside.nodes.now) outside.env) ≡ meaning.find_callee (name_of name.now) (length arguments.now) (scope_env inputs self.now.scope.now) }
         ensures { Calls self.now (form.call (name_of name.now) (trees_of (map named arguments.now))) result }

@@ -2,7 +2,9 @@ use Rattle.std.proofs.Common.{◌≡◌, ◌∙◌, length, map, ap, sym, refl, 
 use Rattle.std.proofs.lemmas.Bool.Decides.{nat_tests}
 use Rattle.jv_data.specs.Text.{text_of}
 use Rattle.jq_ast.specs.Named.{name_of, named}
+use Rattle.jv_data.specs.Value.{Value}
 use Rattle.jq_tree.specs.Tree.{call, trees_of}
+use Rattle.jq_meaning.specs.Runs.{Run}
 use Rattle.jq_meaning.specs.Env.{find_callee, with_arguments}
 use Rattle.jq_operations.specs.Callees.{found}
 use Rattle.jq_single.specs.private.Scopes.{scope_env}
@@ -12,14 +14,9 @@ use Rattle.jq_single.proofs.contexts.Context.called_by_name.Goals.{then-is_empty
 
 pub returns-then-is_function : goal.returns-then-is_function
 returns-then-is_function c =
-    let p = c.args.self.now in
-    let n = name_of c.args.name.now in
     let ts = c.args.arguments.now in
-    let f = c.in-Function.function.now in
-    c.body_of.ensures p (call n (trees_of (map named ts))) (λ inputs level x.
-    let own = scope_env inputs c.scopes.scope.now in
-    let here : found f own ≡ find_callee n (length ts) own = search rules in
-    finds p inputs level n ts (found f own) x (here ∙ c.scopes.invariant inputs))
+    let here : (inputs : Run Value) → found c.in-Function.function.now (scope_env inputs c.scopes.scope.now) ≡ find_callee (name_of c.args.name.now) (length ts) (scope_env inputs c.scopes.scope.now) = λ inputs. search rules in
+    c.body_of.ensures c.args.self.now (call (name_of c.args.name.now) (trees_of (map named ts))) (λ inputs level x. finds c.args.self.now inputs level _ ts _ x (here inputs ∙ c.scopes.invariant inputs))
 
 pub scopes-preserved : goal.scopes-preserved
 scopes-preserved c = λ inputs.
