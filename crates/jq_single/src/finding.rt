@@ -5,11 +5,9 @@ ghost use Rattle.jv_data.specs.View.{view};
 ghost use Rattle.jq_ast.specs.Named.{name_of, named};
 ghost use Rattle.jq_tree.specs.Tree.{trees_of};
 ghost use Rattle.jq_meaning.specs.Runs.{Run};
-ghost use Rattle.jq_state.specs.Environments.{envs_of};
-ghost use Rattle.jq_state.specs.Nodes.{env_at};
 ghost use Rattle.jq_single.specs.private.Scopes.{outside_in, scope_env};
 ghost use Rattle.jq_single.specs.private.Finds.{FindsBound};
-ghost use Rattle.jq_single.specs.private.Parts.{Calls, IsBodyOf, RunsTo};
+ghost use Rattle.jq_single.specs.private.Parts.{Calls, FindsAlike, IsBodyOf, RunsTo};
 ghost use Rattle.jq_meaning.specs.updates.Known.{HasModify};
 ghost use Rattle.jv_data.specs.Kind.{kind_name};
 ghost use Rattle.jv_data.specs.Shared.{text_in};
@@ -83,7 +81,7 @@ impl<'s> Context<'s> {
     // The same where no scope outside of the run's environment has the name.
     #[tactic(auto, using(crate::proofs::Calls::builtin_runs))]
     fn called_in_run(&self, outside: Outside<'s>, name: &Name, arguments: &'s [Tree]) -> Called<'s>
-        requires { (inputs : Run Value) → meaning.find_callee (name_of name.now) (length arguments.now) (env_at (envs_of inputs outside.nodes.now) outside.env) ≡ meaning.find_callee (name_of name.now) (length arguments.now) (scope_env inputs self.now.scope.now) }
+        requires { FindsAlike self.now outside (name_of name.now) (length arguments.now) }
         ensures { Calls self.now (form.call (name_of name.now) (trees_of (map named arguments.now))) result }
     {
         let nodes = outside.nodes;

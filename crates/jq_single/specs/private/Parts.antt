@@ -7,9 +7,9 @@ use Rattle.jv_data.specs.declared.values.Val.{Val}
 use Rattle.jq_ast.specs.Named.{named}
 use Rattle.jq_ast.specs.declared.tree.Function.{Function}
 use Rattle.jq_ast.specs.declared.tree.Tree as ast
-use Rattle.jq_tree.specs.Tree.{Tree, Trees, trees_of}
+use Rattle.jq_tree.specs.Tree.{Name, Tree, Trees, trees_of}
 use Rattle.jq_meaning.specs.Builtins.{Builtin, builtin_run, each_choice, plain_native}
-use Rattle.jq_meaning.specs.Env.{find_inputs}
+use Rattle.jq_meaning.specs.Env.{find_callee, find_inputs}
 use Rattle.jq_meaning.specs.Meaning.{arguments_with, below, meaning}
 use Rattle.jq_meaning.specs.Runs.{Item, plain, Run, one, bind}
 use Rattle.jq_operations.specs.Language.{meaning_of}
@@ -18,6 +18,9 @@ use Rattle.jq_single.specs.private.Scopes.{body_env, scope_env}
 use Rattle.jq_single.specs.declared.finding.Called.{Called}
 use Rattle.jq_single.specs.declared.finding.Called.TheVariants as called
 use Rattle.jq_single.specs.declared.contexts.Context.{Context}
+use Rattle.jq_state.specs.Environments.{envs_of}
+use Rattle.jq_state.specs.Nodes.{env_at}
+use Rattle.jq_single.specs.declared.scopes.Outside.{Outside}
 use Rattle.jq_single.specs.declared.scopes.Scope.{Scope}
 use Rattle.jq_single.specs.declared.stops.Stop.{Stop}
 
@@ -57,6 +60,10 @@ ChangesByBuiltin p b ts v w result = (inputs : Run Value) (level : ℕ) → Chan
 
 abbrev pub ChangesByNative : {A : Type 0} → Context → Native → Trees → (before later : Value) → Result A Stop → Type 0
 ChangesByNative p f ts v w result = (inputs : Run Value) (level : ℕ) → Changed result w (native_in p inputs level f ts v)
+
+-- A call finds in an environment of the run what it finds in a context.
+abbrev pub FindsAlike : Context → Outside → Name → (count : ℕ) → Type 0
+FindsAlike p o n count = (inputs : Run Value) → find_callee n count (env_at (envs_of inputs o.nodes.now) o.env) ≡ find_callee n count (scope_env inputs p.scope.now)
 
 -- A call runs a function's body, whose own environment begins with the function's binding.
 abbrev pub RunsBody : Context → Tree → Function ast.Tree → (own : Scope) → List ast.Tree → Type 0
