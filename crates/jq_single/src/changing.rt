@@ -212,8 +212,7 @@ impl<'s> Context<'s> {
         ensures runs { ChangesTo self.now (named tree.now) (view value.old) (view value.new) result }
         ensures keeps { Keeps result (view value.old) (view value.new) }
     {
-        let called = self.called(tree);
-        match &called {
+        match &self.called(tree) {
             Called::Body(body, parameters, own, arguments) => {
                 if self.depth == 0 {
                     return Err(Stop::Unknown);

@@ -149,8 +149,7 @@ impl<'s> Context<'s> {
     ) -> Result<(), Stop>
         ensures { GathersOf self.now (form.pipe (named first.now) (named second.now)) (item_of item.now) rest.now result into.old.items into.new.items }
     {
-        let called = self.called(second);
-        match &called {
+        match &self.called(second) {
             Called::Body(body, parameters, own, arguments) if self.depth > 0 => {
                 let scope = scope_of_call(own, &**parameters, &**arguments, &*self.scope);
                 let inside = Context {
@@ -268,8 +267,7 @@ impl<'s> Context<'s> {
     ) -> Result<(), Stop>
         ensures { GathersOf self.now (named tree.now) (item_of item.now) rest.now result into.old.items into.new.items }
     {
-        let called = self.called(tree);
-        match &called {
+        match &self.called(tree) {
             Called::Body(body, parameters, own, arguments) => {
                 if self.depth == 0 {
                     return Err(Stop::Unknown);

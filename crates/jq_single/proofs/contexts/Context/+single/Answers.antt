@@ -99,7 +99,7 @@ gather_pipe-returns-in-Body t c = λ inputs level.
     let later : Item → Run Item = rest_run inputs level c.args.rest.now in
     let first = run p inputs level (named c.args.first.now) (item_of c.args.item.now) in
     let same : (x : Item) → go x ≡ meaning (p.depth - 1) body e level x = λ x.
-    (rw c.in-Body.is at c.called-called.ensures) inputs level x ∙ ap (λ z. below p.depth body z level x) (sym (c.scope_of_call-scope.ensures inputs)) ∙ sym (body_runs e p.depth (p.depth - 1) level body x (omega (arith, c.if-self-gt0.true))) in
+    (rw c.in-Body.is at c.called.ensures) inputs level x ∙ ap (λ z. below p.depth body z level x) (sym (c.scope_of_call-scope.ensures inputs)) ∙ sym (body_runs e p.depth (p.depth - 1) level body x (omega (arith, c.if-self-gt0.true))) in
     subst (Gathers (made inputs level c.args.rest.now) c.gather.result c.args.into.now.items c.gather.new.into.items)
     (sym (bind-bind first go later ∙ items-same first.items first.ending _ _ (λ x. ap (λ r. bind r later) (same x)))) (c.gather.ensures inputs level)
 
@@ -143,7 +143,7 @@ gather_call-returns-else-self-eq0 t c = λ inputs level.
     let p = c.args.self.now in
     let x = item_of c.args.item.now in
     let body = body_runs (scope_env inputs c.scope_of_call-scope.result) p.depth (p.depth - 1) level (named c.in-Body.body.now) x (omega arith) in
-    rw ((rw c.in-Body.is at c.called-called.ensures) inputs level x, ← c.scope_of_call-scope.ensures inputs, ← body) (c.gather.ensures inputs level)
+    rw ((rw c.in-Body.is at c.called.ensures) inputs level x, ← c.scope_of_call-scope.ensures inputs, ← body) (c.gather.ensures inputs level)
 
 pub gather_builtin-returns-in-NoOutputs : goal.gather_builtin-returns-in-NoOutputs
 gather_builtin-returns-in-NoOutputs t c = λ inputs level. rw c.in-NoOutputs.is (λ q. refl)
