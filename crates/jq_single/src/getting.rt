@@ -160,14 +160,19 @@ impl<'s> Context<'s> {
         self.field(target, &bounds, guarded, value)
     }
 
-    // `f | g`.
+    // `f | g`: the output of `g` replaces that of `f`, as it replaces a copy in `get_changed`.
     #[cycle(single)]
     #[inline(never)]
     fn pipe(&self, first: &'s Tree, second: &'s Tree, value: &Val) -> Result<Val, Stop>
         ensures { RunsTo self.now (form.pipe (named first.now) (named second.now)) (view value.now) result }
     {
-        let between = self.get(first, value)?;
-        self.get(second, &between)
+        let inside = Context {
+            kept: true,
+            ..*self
+        };
+        let mut output = self.get_part(first, value)?;
+        inside.change(second, &mut output)?;
+        Ok(output)
     }
 
     // `f + g`: the right operand is run first.

@@ -43,8 +43,8 @@ pub fn goes_over_all(tree: &Tree) -> bool {
 pub fn pays_for_copy(input: &Val, values: &[Val]) -> bool {
     match values {
         [Val::List(path), ..] => {
-            let steps = values.len().saturating_mul(FOR_EACH);
-            size_along(input, path.as_slice()) <= steps.saturating_add(FOR_ALL)
+            let for_steps = values.len().saturating_mul(FOR_EACH);
+            size_along(input, path.as_slice()) <= for_steps.saturating_add(FOR_ALL)
         }
         [] => true,
         _ => false,
