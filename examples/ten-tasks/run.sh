@@ -24,7 +24,7 @@ jql -c '
 # jq: map(capture("(?<key>[^=]+)=(?<value>.*)")). Without regular expressions the first = is found by index.
 jql -c '
   .[] | .Config.Env
-  | map(index("=") as $i | {key: .[:$i], value: .[$i + 1:]})
+  | map(index("=") as $i | select($i > 0) | {key: .[:$i], value: .[$i + 1:]})
   | from_entries
 ' inspect.json
 
