@@ -6,7 +6,7 @@ use std::alloc::Global;
 pub(crate) const FUEL: u8 = 150;
 
 /// The scope of a filter, how deep calls may nest in it, how deep filters that are run at once may nest in it, and
-/// whether the value that it changes is a copy of one that is kept.
+/// whether the value that it changes is a copy of one that is kept, or the output of `f` in `f | g`.
 #[derive(Clone, Copy)]
 pub(crate) struct Context<'s> {
     pub(crate) alloc: Global,
