@@ -21,7 +21,7 @@ ONE_JOB = ["--jobs", "1"]
 
 def judge(kit, crate):
     """For each edit of a crate whether it was refused, and what to say."""
-    if any(low.build_rlib(ONE_JOB, anew=False) for low in crate.below()):
+    if any(not low.is_built() and build.build_library(low, 1) for low in crate.below()):
         return [(False, f"{crate.name}: a library below it is not proved")]
     edits = sorted(map(str, (ROOT / "tests" / "edits" / crate.name).glob("*.edit")))
     return kit.must_fail_all(crate, edits, ONE_JOB)

@@ -187,6 +187,7 @@ KIT = "/nowhere"
 ROWS = [line.split(":") for line in pathlib.Path("crates.txt").read_text().splitlines()]
 known = {}
 class Crate:
+    cuts_libraries = False
     def __init__(self, folder, root, found):
         self.folder, self.root, self.name = folder, root, pathlib.Path(folder).name
         self.is_program = self.name == "jql"
@@ -197,7 +198,7 @@ class Crate:
     def stamp(self):
         return pathlib.Path(self.folder, "src/lib.rt").read_text() + "".join(it.stamp() for it in self.deps)
     def is_built(self):
-        made = pathlib.Path(self.folder, "out/stamp")
+        made = pathlib.Path(self.folder, "out/rlib/stamp")
         return made.is_file() and made.read_text() == self.stamp()
     def build_rlib(self, flags, anew):
         print("built with", *flags, "at niceness", os.getpriority(os.PRIO_PROCESS, 0), file=self.out)
@@ -206,7 +207,9 @@ class Crate:
         time.sleep(0.2)
         if "wrong" in self.stamp():
             return 1
-        pathlib.Path(self.folder, "out/stamp").write_text(self.stamp())
+        pathlib.Path(self.folder, "out/rlib").mkdir(exist_ok=True)
+        if not (anew and self.cuts_libraries) and not self.is_program:
+            raise ValueError("not from nothing, or with its proofs")
         with open("order", "a") as order:
             order.write(self.name + " ")
         return 0

@@ -7,9 +7,10 @@
 What was proved before is kept: a crate is built again only if its sources, those of a crate below it, its line of crates.txt
 or the kit have changed (the stamp that `rt` keeps in crates/NAME/out/rlib). The log of a crate is crates/NAME/out/build.log.
 
-This loads the kit's `rt` as a module and builds each library as `rt lib` does. Calls of `rt lib` itself cannot run side by
-side: each locks the folder of every crate below its own. And `rt run` alone would first read the sources of the whole program
-in one pass, which takes minutes and 10 GB.
+This loads the kit's `rt` as a module and builds each library as `rt ci` does: from nothing, and with its statements alone. With
+the checked proofs in them too, as `rt lib` writes them, the libraries take gigabytes, and a prover high up loads for minutes.
+Calls of `rt` itself cannot run side by side: each locks the folder of every crate below its own. And `rt run` alone would first
+read the sources of the whole program in one pass, which takes minutes and 10 GB.
 """
 import importlib.machinery
 import importlib.util
@@ -55,7 +56,8 @@ def load_kit():
     kit = importlib.util.module_from_spec(importlib.util.spec_from_loader("rt_of_the_kit", loader))
     kit.__file__ = where
     loader.exec_module(kit)
-    parts = {kit: ("processors", "free", "read_files"), kit.rtlib.Crate: ("below", "stamp", "is_built", "build_rlib", "run")}
+    names_of_crate = ("below", "stamp", "is_built", "build_rlib", "run", "cuts_libraries")
+    parts = {kit: ("processors", "free", "read_files"), kit.rtlib.Crate: names_of_crate}
     lacking = [name for part, names in parts.items() for name in names if not hasattr(part, name)]
     if lacking:
         sys.exit(f"{where} is of another kit than tools/build.py is written for: it has no {', '.join(lacking)}")
@@ -109,6 +111,15 @@ def is_up_to_date(kit, crate):
     return kit.rtlib.text_of(f"{made}.stamp") == crate.stamp() + kit.rtlib.sum_of(made)
 
 
+def build_library(crate, jobs):
+    """Proves a library from nothing and writes its statements. The stamp says to `rt` that the library is built."""
+    stamp, crate.cuts_libraries = crate.stamp(), True
+    status = crate.build_rlib(["--jobs", str(jobs)], anew=True)
+    if status == 0 and stamp == crate.stamp():
+        pathlib.Path(crate.folder, "out", "rlib", "stamp").write_text(stamp)
+    return status
+
+
 def build(crate, jobs, niceness):
     """Builds one crate, all below it being built, and answers whether it was proved. What this thread starts has its niceness."""
     os.setpriority(os.PRIO_PROCESS, threading.get_native_id(), os.getpriority(os.PRIO_PROCESS, 0) + niceness)
@@ -118,7 +129,7 @@ def build(crate, jobs, niceness):
         try:
             if crate.is_program:
                 return crate.run(["--jobs", str(jobs)], ["--version"]) == 0
-            return crate.build_rlib(["--jobs", str(jobs)], anew=False) == 0
+            return build_library(crate, jobs) == 0
         except (Exception, SystemExit) as error:
             print(f"{type(error).__name__}: {error}", file=crate.out)
             return False
