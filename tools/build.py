@@ -8,7 +8,8 @@ What was proved before is kept: a crate is built again only if its sources, thos
 or the kit have changed (the stamp that `rt` keeps in crates/NAME/out/rlib). The log of a crate is crates/NAME/out/build.log.
 
 This loads the kit's `rt` as a module and builds each library as `rt ci` does: from nothing, and with its statements alone. With
-the checked proofs in them too, as `rt lib` writes them, the libraries take gigabytes, and a prover high up loads for minutes.
+the checked proofs in them too, as `rt lib` writes them, the libraries take gigabytes, and a prover high up loads for minutes; but
+the check of one crate takes less memory, so it is done where there is little.
 Calls of `rt` itself cannot run side by side: each locks the folder of every crate below its own. And `rt run` alone would first
 read the sources of the whole program in one pass, which takes minutes and 10 GB.
 """
@@ -35,7 +36,8 @@ MINUTES_TO_LOAD, MINUTES_A_LINE = 0.15, 1 / 1500
 # The most jobs for one crate (two take a third off its time; each job loads the libraries below, so more take hardly less time and much
 # more of the processors), and the silence after which a line says what runs.
 JOBS_AT_MOST, SECONDS_OF_SILENCE = 2, 45
-# Memory for a crate of two jobs, in bytes: with less of it free a crate has one.
+# Memory for a crate of two jobs, in bytes: with less of it free a crate has one. With less at the start, libraries are built as `rt lib`
+# does, over what is kept: from nothing one crate takes over 6 GB.
 TWO_JOBS = 9_000_000_000
 # A crate that begins the longest chain, or one that is shorter by at most this part, goes before the others from this number of lanes on:
 # it gets all its jobs also where no lane is idle, and the processors first, since the others run with this niceness.
@@ -120,7 +122,7 @@ def build_library(crate, jobs):
     return status
 
 
-def build(crate, jobs, niceness):
+def build(crate, jobs, niceness, saves_memory):
     """Builds one crate, all below it being built, and answers whether it was proved. What this thread starts has its niceness."""
     os.setpriority(os.PRIO_PROCESS, threading.get_native_id(), os.getpriority(os.PRIO_PROCESS, 0) + niceness)
     out = pathlib.Path(crate.folder, "out")
@@ -129,6 +131,8 @@ def build(crate, jobs, niceness):
         try:
             if crate.is_program:
                 return crate.run(["--jobs", str(jobs)], ["--version"]) == 0
+            if saves_memory:
+                return crate.build_rlib(["--jobs", str(jobs)], anew=False) == 0
             return build_library(crate, jobs) == 0
         except (Exception, SystemExit) as error:
             print(f"{type(error).__name__}: {error}", file=crate.out)
@@ -206,6 +210,7 @@ class Run:
         self.crates, self.lanes, self.chains, self.free = crates, lanes, chains, free
         self.left = sorted((crate for crate in crates if crate.name in chains), key=lambda crate: -chains[crate.name])
         self.done = {crate.name for crate in crates} - {crate.name for crate in self.left}
+        self.saves_memory = free() < TWO_JOBS
         self.running, self.failed, self.silent_since = {}, [], time.monotonic()
 
     def say(self, text):
@@ -231,7 +236,7 @@ class Run:
             jobs = most if is_first else min(most, max(1, idle - (len(ready) - at - 1)))
             self.left.remove(crate)
             niceness = 0 if is_first or self.lanes < LANES_TO_SHARE else NICENESS
-            self.running[started(build, crate, jobs, niceness)] = crate, time.monotonic(), jobs
+            self.running[started(build, crate, jobs, niceness, self.saves_memory)] = crate, time.monotonic(), jobs
 
     def end(self, future):
         crate, since, _ = self.running.pop(future)
