@@ -3,8 +3,8 @@
 ghost use Rattle.std.specs.Prelude.{◌≡◌, IsTrue, false, is_some};
 ghost use Rattle.jq_state.specs.Items.{keys_of};
 
-use crate::small::{is_small, is_tried};
 use jq_ast::Tree;
+use jq_heuristics::{is_small, is_tried};
 use jq_state::items::Item;
 
 // The least price of a filter that is run at once without success, in transitions.

@@ -18,7 +18,6 @@ mod passing;
 mod ranges;
 mod running;
 mod simple;
-mod small;
 mod stepping;
 mod tails;
 mod through;

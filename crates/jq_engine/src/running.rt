@@ -11,8 +11,8 @@ ghost use Rattle.jq_engine.specs.private.Reaching.{HasReached, IsReadyAfter};
 
 use crate::apart::Around;
 use crate::guards::Guard;
-use crate::small::is_update;
 use crate::stepping::step;
+use jq_heuristics::is_update;
 use jq_meaning::machine::{
     a_filter_may_run_at_once, a_transition_keeps_the_run, heights_stay_in_range,
 };

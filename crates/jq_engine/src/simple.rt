@@ -7,8 +7,8 @@ ghost use Rattle.jq_engine.specs.private.Simple.{GivesOne};
 
 use crate::at_once::change;
 use crate::bodies::called_body;
-use crate::small::is_simple;
 use jq_ast::Tree;
+use jq_heuristics::is_simple;
 use jq_single::Stop;
 use jq_state::environments::Nodes;
 use jq_state::frames::Scope;

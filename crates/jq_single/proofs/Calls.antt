@@ -7,9 +7,9 @@ use Rattle.jq_natives.specs.declared.native.Native.TheVariants.{GetPath, TypeNam
 use Rattle.jq_operations.specs.Language.{meaning_of}
 use Rattle.jq_operations.specs.declared.named_builtins.Builtin.TheVariants as builtin
 use Rattle.jq_tree.specs.Tree.{trees_of, Name, Trees, no_trees, more_trees, Tree, trees_count, Operator, binary, call, literal}
-use Rattle.jq_meaning.specs.Builtins.{each_choice, native_run, plain_native, Builtin, builtin_named, builtin_run, paths}
+use Rattle.jq_meaning.specs.Builtins.{each_choice, native_run, plain_native, Builtin, builtin_named, builtin_run}
 use Rattle.jq_meaning.specs.Meaning.{arguments_with, below, called, meaning}
-use Rattle.jq_meaning.specs.Runs.{Run, Item, plain, value_in, bind, none, answered, one, located, paths_in}
+use Rattle.jq_meaning.specs.Runs.{Run, Item, plain, value_in, bind, none, answered, one, paths_in}
 use Rattle.jq_single.specs.declared.contexts.Context.{Context}
 use Rattle.jq_single.specs.private.Parts.{run, builtin_in, RunsTo}
 use Rattle.jq_single.specs.private.Scopes.{outside_in, scope_env}
@@ -183,10 +183,3 @@ kind_told p op t u l v (Some b) d g h = λ inputs level.
 
 pub paths-rest : (r : Run Item) (later : Item → Run Item) → bind (paths_in r) later ≡ bind r (λ x. bind (path_item x) later)
 paths-rest r later = ap (λ q. bind q later) (paths-bind r) ∙ bind-bind r path_item later
-
--- the paths of one argument
-pub paths_run : (p : Context) (inputs : Run Value) (level : ℕ) (ts : List ast.Tree) (t : ast.Tree) (v : Value) (x : Item) (later : Item → Run Item) → length ts ≡ 1 → t ≡ get_or ts 0 t → x ≡ located v []
-    → bind (builtin_in p inputs level paths (trees_of (map named ts)) (plain v)) later ≡ bind (run p inputs level (named t) x) (λ y. bind (path_item y) later)
-paths_run p inputs level ts t v x later e h is =
-    ap (λ us. bind (builtin_in p inputs level paths (trees_of (map named us)) (plain v)) later) (one_value ts t e h)
-    ∙ paths-rest (run p inputs level (named t) (located v [])) later ∙ ap (λ y. bind (run p inputs level (named t) y) (λ z. bind (path_item z) later)) (sym is)

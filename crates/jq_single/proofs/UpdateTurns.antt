@@ -1,8 +1,9 @@
 -- What is claimed of updates, and of the first output of a run.
 use Rattle.std.proofs.Common.{◌≡◌, ◌∙◌, List, [], ◌∷◌, Result, Ok, Err, refl, ap, ℕ, suc, ◌++◌, map, sym, subst}
 use Rattle.jv_data.specs.Value.{Value, array, items_of}
-use Rattle.jq_meaning.specs.Runs.{Item, Ending, Run, then_run, plain, located, value_in, none, one, fail, answered, bind, paths_in}
+use Rattle.jq_meaning.specs.Runs.{Item, Ending, Done, Run, then_run, plain, located, value_in, none, one, fail, answered, bind, paths_in}
 use Rattle.jq_single.specs.Single.{Changed, Ends}
+use Rattle.jq_single.specs.private.Parts.{ChangesTo, run}
 use Rattle.jq_single.specs.private.Updates.{first_alone}
 use Rattle.jq_single.specs.declared.stops.Stop.{Stop}
 use Rattle.jv_arith.specs.Arith.{add_of}
@@ -15,21 +16,25 @@ use Rattle.jv_data.proofs.shared.Items.{values_of-items_of}
 use Rattle.jv_value.specs.GetPath.{getpath_of}
 use Rattle.jq_ast.specs.Named.{named}
 use Rattle.jq_tree.specs.Tree.{Name, Tree, Trees, no_trees, more_trees, trees_of}
+use Rattle.jq_tree.specs.WrittenOut.{modify}
+use Rattle.std.proofs.Math.Logic.{∥∥₁_elim}
 use Rattle.jq_natives.specs.Answers.{Answer}
 use Rattle.jq_natives.specs.PathNatives.{getpath_native_of, setpath_native_of}
 use Rattle.jq_meaning.specs.Env.{Env, bound, closure, function, value_of, with_arguments}
 use Rattle.jv_data.specs.Text.{text_of}
 use Rattle.jq_single.specs.private.Scopes.{outside_in, scope_env}
+use Rattle.jq_single.specs.declared.contexts.Context.{Context}
 use Rattle.jq_single.specs.declared.scopes.Scope.{Scope}
 use Rattle.jq_single.specs.declared.scopes.Scope.TheVariants as scope
 use Rattle.jq_meaning.specs.Meaning.{meaning}
 use Rattle.jq_meaning.specs.updates.Known.{HasModify}
-use Rattle.jq_meaning.specs.laws.Updates.{ModifyStays}
-use Rattle.jq_meaning.specs.laws.Updating.{with_answer, on_outputs, turn_of, updated, update_run}
+use Rattle.jq_meaning.specs.laws.Updates.{ModifyStays, UpdatesAreTurns}
+use Rattle.jq_meaning.specs.laws.Updating.{with_answer, on_outputs, turn_of, turns, updated, update_run}
 use Rattle.jq_meaning.proofs.shared.machine.RunLaws.{bind-one}
-use Rattle.jq_single.specs.private.Gathering.{GoesOn}
+use Rattle.jq_single.specs.private.Gathering.{Gathers, GoesOn, made}
 use Rattle.jq_single.proofs.shared.RunSets.{run_set}
-use Rattle.jq_single.proofs.Binding.{bind-known, ends-bind}
+use Rattle.jq_single.proofs.Binding.{bind-known, ends-bind, gathered_list, gathered_same}
+use Rattle.jq_single.specs.declared.rests.Rest.TheVariants as rest
 use Rattle.jq_single.specs.declared.stops.Stop.TheVariants as stop
 use Rattle.jv_data.specs.declared.values.Val as val
 
@@ -51,7 +56,7 @@ first-then r s q h = first-same r.items r.ending s ∙ ap (λ (z : Run Item). fi
 
 -- ---- the call of `_modify`
 
-pub two_calls_deep : (depth d : ℕ) (f g : Tree) (e : Env) (k : ℕ) (v : Value) → depth ≡ suc (suc d)
+two_calls_deep : (depth d : ℕ) (f g : Tree) (e : Env) (k : ℕ) (v : Value) → depth ≡ suc (suc d)
     → update_run depth f g e k (plain v) ≡ updated k (paths_in (meaning d f e k (located v []))) (λ w. meaning d g e (suc k) (plain w)) (plain v)
 two_calls_deep depth d f g e k v h = ap (λ n. update_run n f g e k (plain v)) h
 
@@ -118,3 +123,19 @@ changed-prop (Err stop.Nothing) w r = run_set r none
 changed-prop (Err (stop.Raised e)) w r = run_set r (fail (view e))
 changed-prop (Err stop.NoMemory) w r = hlevel
 changed-prop (Err stop.Unknown) w r = hlevel
+
+-- an update is the turns at the paths that were listed, two calls deep
+pub takes_turns : {A B : Type 0} → UpdatesAreTurns → (p : Context) (d : ℕ) (t f g : Tree) (v : Value) (most : ℕ) (done : B) (xs ys : List Val) → t ≡ modify f g → p.depth ≡ suc (suc d) → xs ≡ []
+    → ((inputs : Run Value) → ∥ HasModify (scope_env inputs p.scope.now) ∥₁)
+    → ((inputs : Run Value) (level : ℕ) → Gathers (made inputs level (rest.End most)) (Ok done) xs ys (bind (paths_in (meaning d f (scope_env inputs p.scope.now) level (located v []))) one))
+    → (a : Result A Stop) (w : Value)
+    → ((inputs : Run Value) (level : ℕ) → Changed a w (turns level (λ part. meaning d g (scope_env inputs p.scope.now) (suc level) (plain part)) (map view ys) Done v (array (items_of []))))
+    → ChangesTo p t v w a
+takes_turns law p d t f g v most done xs ys e h empty has listed a w k = λ inputs level.
+    let env = scope_env inputs p.scope.now in
+    let goes : List Value → Ending → Run Item = λ vs f. turns level (λ part. meaning d g env (suc level) (plain part)) vs f v (array (items_of [])) in
+    let r = paths_in (meaning d f env level (located v [])) in
+    let found = gathered_same r.items r.ending (map view ys) (gathered_list inputs level most done xs ys r empty (listed inputs level)) in
+    ∥∥₁_elim (has inputs) (changed-prop a w _)
+    (λ m. subst (Changed a w)
+    (sym (ap (λ u. run p inputs level u (plain v)) e ∙ law p.depth f g env level (plain v) m ∙ two_calls_deep p.depth d f g env level v h ∙ ap (λ vs. goes vs r.ending) found.0 ∙ ap (goes (map view ys)) found.1)) (k inputs level))

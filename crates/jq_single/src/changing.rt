@@ -18,10 +18,10 @@ ghost use Rattle.jq_tree.specs.Tree as form;
 
 use crate::contexts::{Context, FUEL};
 use crate::finding::Called;
-use crate::readings::{goes_over_all, is_cheap};
 use crate::scopes::{Outside, Scope};
 use crate::stops::{Stop, answer};
 use jq_ast::{Function, Operator, Pattern, Tree};
+use jq_heuristics::{goes_over_all, is_cheap};
 use jq_natives::{Native, call_in_place, truth};
 use jq_operations::{Builtin, operated};
 use jq_state::environments::Nodes;

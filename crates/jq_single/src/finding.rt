@@ -7,7 +7,7 @@ ghost use Rattle.jq_tree.specs.Tree.{trees_of};
 ghost use Rattle.jq_meaning.specs.Runs.{Run};
 ghost use Rattle.jq_single.specs.private.Scopes.{outside_in, scope_env};
 ghost use Rattle.jq_single.specs.private.Finds.{FindsBound};
-ghost use Rattle.jq_single.specs.private.Parts.{Calls, FindsAlike, IsBodyOf, RunsTo};
+ghost use Rattle.jq_single.specs.private.Parts.{Calls, FindsAlike, IsBodyOf, IsRunAs, RunsTo};
 ghost use Rattle.jq_meaning.specs.updates.Known.{HasModify};
 ghost use Rattle.jv_data.specs.Kind.{kind_name};
 ghost use Rattle.jv_data.specs.Shared.{text_in};
@@ -18,6 +18,7 @@ ghost use Rattle.jq_meaning.specs.Env as meaning;
 ghost use Rattle.jv_data.specs.declared.values.Val as val;
 ghost use Rattle.jq_meaning.specs.Steps as steps;
 
+use crate::changing::scope_of_call;
 use crate::contexts::Context;
 use crate::scopes::{Outside, Scope};
 use jq_ast::{Function, Name, Operator, Tree};
@@ -112,6 +113,25 @@ impl<'s> Context<'s> {
                 body_of(function, Scope::Run(Outside { nodes, env }), arguments)
             }
             _ => Called::Unknown,
+        }
+    }
+
+    /// The filter that a call runs, its scope and how deep calls may nest in it. What calls no body is run itself.
+    #[inline(always)]
+    pub(crate) fn entered<'t>(
+        &'t self,
+        tree: &'t Tree,
+        called: &'t Called<'t>,
+    ) -> (&'t Tree, Scope<'t>, u32)
+        requires { Calls self.now (named tree.now) called.now }
+        ensures { IsRunAs self.now (named tree.now) result.2 (named result.0.now) result.1 }
+    {
+        match called {
+            Called::Body(body, parameters, own, arguments) if self.depth > 0 => {
+                let scope = scope_of_call(own, parameters, arguments, self.scope);
+                (body, scope, self.depth - 1)
+            }
+            _ => (tree, *self.scope, self.depth),
         }
     }
 

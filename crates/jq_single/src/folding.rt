@@ -6,15 +6,15 @@ ghost use Rattle.jq_ast.specs.Named.{named, named_as_pattern};
 ghost use Rattle.jq_tree.specs.Tree as form;
 ghost use Rattle.jq_meaning.specs.Runs.{plain};
 ghost use Rattle.jq_single.specs.Single.{Keeps};
-ghost use Rattle.jq_single.specs.private.Gathering.{FoldsAs, FoldsFrom, GathersTurn, Turns, state_in};
+ghost use Rattle.jq_single.specs.private.Gathering.{FoldsAs, GathersTurn, Turns, state_in};
 ghost use Rattle.jq_single.specs.private.Parts.{ChangesTo};
 
 use crate::contexts::Context;
-use crate::readings::{is_cheap, pays_for_copy};
 use crate::rests::Rest;
 use crate::scopes::Scope;
 use crate::stops::Stop;
 use jq_ast::{Pattern, Tree};
+use jq_heuristics::{is_cheap, pays_for_copy};
 use jq_state::items::Item;
 use jv_data::{NoMemory, Val};
 
@@ -23,6 +23,11 @@ const MOST: usize = 65_536;
 
 impl<'s> Context<'s> {
     /// `reduce f as $x (g; h)`, whose result replaces the input. A pattern other than one variable is not matched at once.
+    ///
+    /// If the input is the first state, with one output of the source it is changed in place. With more a copy of it is, since a
+    /// later step may be one that is not run at once; the machine runs the filter if the input is large and the outputs are few.
+    /// A source that is run only to find this out has half of the fuel, so that folds in the sources of folds are not run more
+    /// often at each level.
     #[cycle(single)]
     #[inline(never)]
     pub(crate) fn change_reduce(
@@ -39,29 +44,9 @@ impl<'s> Context<'s> {
         let Pattern::Whole(name) = pattern else {
             return Err(Stop::Unknown);
         };
-        match start {
-            Tree::Identity => self.change_fold(source, name, start, update, value),
-            _ => self.change_from(source, name, start, update, value),
-        }
-    }
-
-    // The fold of the input. With one output of the source the input is changed in place. With more a copy of it is, since a
-    // later step may be one that is not run at once; the machine runs the filter if the input is large and the outputs are few.
-    // A source that is run only to find this out has half of the fuel, so that folds in the sources of folds are not run more
-    // often at each level.
-    #[cycle(single)]
-    #[inline(never)]
-    fn change_fold(
-        &self,
-        source: &'s Tree,
-        name: &'s String,
-        start: &'s Tree,
-        update: &'s Tree,
-        value: &mut Val,
-    ) -> Result<(), Stop>
-        ensures runs { named start.now ≡ form.identity → FoldsAs self.now (named source.now) (text_of name.now) (named start.now) (named update.now) (view value.old) (view value.new) result }
-        ensures keeps { Keeps result (view value.old) (view value.new) }
-    {
+        let Tree::Identity = start else {
+            return self.change_from(source, name, start, update, value);
+        };
         let cheap = is_cheap(value);
         let most = if cheap { 2 } else { MOST };
         let mut values = Vec::new(self.alloc);
@@ -84,7 +69,8 @@ impl<'s> Context<'s> {
         }
     }
 
-    // The fold of a state that is made first.
+    // The fold of a state that is made first, and whose last one replaces the input. The list has one value, the state, which each
+    // output of the source changes.
     #[cycle(single)]
     #[inline(never)]
     fn change_from(
@@ -99,43 +85,26 @@ impl<'s> Context<'s> {
         ensures keeps { Keeps result (view value.old) (view value.new) }
     {
         let state = self.get(start, value)?;
-        self.fold(source, name, state, update, value)
-    }
-
-    // The last state, from a known state, replaces the input. The list has one value, the state, which each output of the source
-    // changes.
-    #[cycle(single)]
-    fn fold(
-        &self,
-        source: &'s Tree,
-        name: &'s String,
-        state: Val,
-        update: &'s Tree,
-        value: &mut Val,
-    ) -> Result<(), Stop>
-        ensures runs { FoldsFrom self.now (named source.now) (text_of name.now) (named update.now) (view state) (view value.old) (view value.new) result }
-        ensures keeps { Keeps result (view value.old) (view value.new) }
-    {
         let mut states = Vec::new(self.alloc);
         keep(&mut states, state)?;
         let input = Item::plain(value.copy()?);
         let update = Rest::Fold(&*name, &*update, &*self);
         (&*self).gather(&*source, &input, &update, &mut states)?;
-        let Some(state) = take(&mut states) else {
+        let Some(last) = take(&mut states) else {
             return Err(Stop::Unknown);
         };
-        *value = state;
+        *value = last;
         Ok(())
     }
 
     /// A step of a fold on the last value of a list, its state.
     #[cycle(single)]
     #[inline(never)]
-    pub(crate) fn turn(
+    pub(crate) fn turn<'r>(
         &self,
-        name: &'s String,
-        update: &'s Tree,
-        context: &Context<'s>,
+        name: &'r String,
+        update: &'r Tree,
+        context: &Context<'r>,
         value: &Val,
         states: &mut Vec<Val>,
     ) -> Result<(), Stop>
@@ -145,10 +114,11 @@ impl<'s> Context<'s> {
             return Err(Stop::Unknown);
         };
         let inside = Context {
+            alloc: self.alloc,
             scope: context.scope,
             depth: context.depth,
+            fuel: self.fuel,
             kept: false,
-            ..*self
         };
         inside.step(name, update, value, &mut state)?;
         Ok(keep(states, state)?)

@@ -1,11 +1,11 @@
 // The outputs of a filter, each passed on to the rest of the filter: paths, and the numbers of `range(f; g)`, too. No list of them is kept.
-ghost use Rattle.std.specs.Prelude.{map, ◌≡◌, ◌++◌, ◌∷◌, [], MatchOption, OnOk, ℕ, List};
+ghost use Rattle.std.specs.Prelude.{map, ◌≡◌, ◌++◌, ◌∷◌, [], IfSome, MatchOption, OnOk, ℕ, List};
 ghost use Rattle.jq_ast.specs.Named.{named, named_as_pattern};
 ghost use Rattle.jq_tree.specs.Tree.{trees_of};
 ghost use Rattle.jq_operations.specs.Language.{meaning_of};
 ghost use Rattle.jq_state.specs.Items.{item_of};
 ghost use Rattle.jq_operations.specs.Entering.{defined};
-ghost use Rattle.jq_single.specs.private.Gathering.{GathersAll, GathersBuiltin, GathersOf, Gathers, GathersRun, made, numbers_from, supplied};
+ghost use Rattle.jq_single.specs.private.Gathering.{GathersAll, GathersBuiltin, GathersOf, GathersPaths, Gathers, GathersRun, made, numbers_from, supplied};
 ghost use Rattle.jv_data.specs.Value.{Value};
 ghost use Rattle.jv_data.specs.View.{view};
 ghost use Rattle.jq_meaning.specs.machine.Operations.{result_of};
@@ -47,11 +47,11 @@ pub(crate) struct Numbers {
 impl<'s> Context<'s> {
     /// Runs a filter in a scope, and the rest on each of its outputs. The values at the end are added to a list.
     #[cycle(single)]
-    pub(crate) fn gather(
+    pub(crate) fn gather<'r>(
         &self,
         tree: &'s Tree,
         item: &Item,
-        rest: &Rest<'s>,
+        rest: &Rest<'r>,
         into: &mut Vec<Val>,
     ) -> Result<(), Stop>
         ensures { GathersOf self.now (named tree.now) (item_of item.now) rest.now result into.old.items into.new.items }
@@ -115,11 +115,11 @@ impl<'s> Context<'s> {
     // A filter of at most one output. On an item with a path it is not run at once.
     #[cycle(single)]
     #[inline(never)]
-    fn gather_one(
+    fn gather_one<'r>(
         &self,
         tree: &'s Tree,
         item: &Item,
-        rest: &Rest<'s>,
+        rest: &Rest<'r>,
         into: &mut Vec<Val>,
     ) -> Result<(), Stop>
         ensures { GathersOf self.now (named tree.now) (item_of item.now) rest.now result into.old.items into.new.items }
@@ -139,43 +139,36 @@ impl<'s> Context<'s> {
     // `f | g`. If `g` calls a body, it is found once for all outputs of `f`.
     #[cycle(single)]
     #[inline(never)]
-    fn gather_pipe(
+    fn gather_pipe<'r>(
         &self,
         first: &'s Tree,
         second: &'s Tree,
         item: &Item,
-        rest: &Rest<'s>,
+        rest: &Rest<'r>,
         into: &mut Vec<Val>,
     ) -> Result<(), Stop>
         ensures { GathersOf self.now (form.pipe (named first.now) (named second.now)) (item_of item.now) rest.now result into.old.items into.new.items }
     {
-        match &self.called(second) {
-            Called::Body(body, parameters, own, arguments) if self.depth > 0 => {
-                let scope = scope_of_call(own, &**parameters, &**arguments, &*self.scope);
-                let inside = Context {
-                    scope: &scope,
-                    depth: self.depth - 1,
-                    ..*self
-                };
-                let next = Rest::Then(&**body, &inside, &*rest);
-                (&*self).gather(&*first, item, &next, into)
-            }
-            _ => {
-                let next = Rest::Then(&*second, &*self, &*rest);
-                (&*self).gather(&*first, item, &next, into)
-            }
-        }
+        let called = self.called(second);
+        let (filter, scope, depth) = (&*self).entered(&*second, &called);
+        let inside = Context {
+            scope: &scope,
+            depth,
+            ..*self
+        };
+        let next = Rest::Then(filter, &inside, &*rest);
+        (&*self).gather(&*first, item, &next, into)
     }
 
     // `f, g`.
     #[cycle(single)]
     #[inline(never)]
-    fn gather_comma(
+    fn gather_comma<'r>(
         &self,
         first: &'s Tree,
         second: &'s Tree,
         item: &Item,
-        rest: &Rest<'s>,
+        rest: &Rest<'r>,
         into: &mut Vec<Val>,
     ) -> Result<(), Stop>
         ensures { GathersOf self.now (form.comma (named first.now) (named second.now)) (item_of item.now) rest.now result into.old.items into.new.items }
@@ -187,13 +180,13 @@ impl<'s> Context<'s> {
     // `if f then g else h end`.
     #[cycle(single)]
     #[inline(never)]
-    fn gather_choice(
+    fn gather_choice<'r>(
         &self,
         condition: &'s Tree,
         holds: &'s Tree,
         fails: &'s Tree,
         item: &Item,
-        rest: &Rest<'s>,
+        rest: &Rest<'r>,
         into: &mut Vec<Val>,
     ) -> Result<(), Stop>
         ensures { GathersOf self.now (form.choice (named condition.now) (named holds.now) (named fails.now)) (item_of item.now) rest.now result into.old.items into.new.items }
@@ -213,13 +206,13 @@ impl<'s> Context<'s> {
     // `f as $x | g`, where f may have several outputs.
     #[cycle(single)]
     #[inline(never)]
-    fn gather_binding(
+    fn gather_binding<'r>(
         &self,
         source: &'s Tree,
         pattern: &'s Pattern,
         body: &'s Tree,
         item: &Item,
-        rest: &Rest<'s>,
+        rest: &Rest<'r>,
         into: &mut Vec<Val>,
     ) -> Result<(), Stop>
         ensures { GathersOf self.now (form.bind_as (named source.now) (named_as_pattern pattern.now) (named body.now)) (item_of item.now) rest.now result into.old.items into.new.items }
@@ -237,12 +230,12 @@ impl<'s> Context<'s> {
     // `def a(b): f; g`.
     #[cycle(single)]
     #[inline(never)]
-    fn gather_define(
+    fn gather_define<'r>(
         &self,
         function: &'s Function<Tree>,
         later: &'s Tree,
         item: &Item,
-        rest: &Rest<'s>,
+        rest: &Rest<'r>,
         into: &mut Vec<Val>,
     ) -> Result<(), Stop>
         ensures { GathersOf self.now (defined function.now (named later.now)) (item_of item.now) rest.now result into.old.items into.new.items }
@@ -258,11 +251,11 @@ impl<'s> Context<'s> {
     // A call, by what it runs. A body is run with a call depth that is smaller by one.
     #[cycle(single)]
     #[inline(never)]
-    fn gather_call(
+    fn gather_call<'r>(
         &self,
         tree: &'s Tree,
         item: &Item,
-        rest: &Rest<'s>,
+        rest: &Rest<'r>,
         into: &mut Vec<Val>,
     ) -> Result<(), Stop>
         ensures { GathersOf self.now (named tree.now) (item_of item.now) rest.now result into.old.items into.new.items }
@@ -290,12 +283,12 @@ impl<'s> Context<'s> {
     // A name of the language, whose answer replaces a copy of the input. On an item with a path `empty` alone is run at once.
     #[cycle(single)]
     #[inline(never)]
-    fn gather_builtin(
+    fn gather_builtin<'r>(
         &self,
         builtin: Builtin,
         arguments: &'s [Tree],
         item: &Item,
-        rest: &Rest<'s>,
+        rest: &Rest<'r>,
         into: &mut Vec<Val>,
     ) -> Result<(), Stop>
         ensures { GathersBuiltin self.now (meaning_of builtin) (trees_of (map named arguments.now)) (item_of item.now) rest.now result into.old.items into.new.items }
@@ -308,7 +301,10 @@ impl<'s> Context<'s> {
         }
         match builtin {
             Builtin::Range => self.gather_range(arguments, &item.value, rest, into),
-            Builtin::Paths => self.gather_paths(arguments, &item.value, rest, into),
+            Builtin::Paths => match arguments {
+                [argument] => self.gather_paths(argument, &item.value, rest, into),
+                _ => Err(Stop::Unknown),
+            },
             _ => {
                 let inside = Context {
                     kept: true,
@@ -325,7 +321,7 @@ impl<'s> Context<'s> {
 
     // Runs the rest of the filter on an output.
     #[cycle(single)]
-    fn give(&self, item: Item, rest: &Rest<'s>, into: &mut Vec<Val>) -> Result<(), Stop>
+    fn give<'r>(&self, item: Item, rest: &Rest<'r>, into: &mut Vec<Val>) -> Result<(), Stop>
         ensures { GathersRun (one (item_of item)) rest.now result into.old.items into.new.items }
     {
         match rest {
@@ -337,10 +333,11 @@ impl<'s> Context<'s> {
             }
             Rest::Then(tree, context, later) => {
                 let inside = Context {
+                    alloc: self.alloc,
                     scope: context.scope,
                     depth: context.depth,
+                    fuel: self.fuel,
                     kept: true,
-                    ..*self
                 };
                 inside.gather(*tree, &item, *later, into)
             }
@@ -354,17 +351,18 @@ impl<'s> Context<'s> {
     // The same where the rest binds the output or takes a step.
     #[cycle(single)]
     #[inline(never)]
-    fn give_on(&self, item: Item, rest: &Rest<'s>, into: &mut Vec<Val>) -> Result<(), Stop>
+    fn give_on<'r>(&self, item: Item, rest: &Rest<'r>, into: &mut Vec<Val>) -> Result<(), Stop>
         ensures { GathersRun (one (item_of item)) rest.now result into.old.items into.new.items }
     {
         match rest {
             Rest::Bind(name, body, context, input, later) => {
                 let scope = Scope::Value(&*context.scope, &**name, &item.value);
                 let inside = Context {
+                    alloc: self.alloc,
                     scope: &scope,
                     depth: context.depth,
+                    fuel: self.fuel,
                     kept: true,
-                    ..*self
                 };
                 inside.gather(&**body, *input, &**later, into)
             }
@@ -386,11 +384,11 @@ impl<'s> Context<'s> {
     // Takes a step, and runs the rest on where it leads to.
     #[cycle(single)]
     #[inline(never)]
-    fn give_step(
+    fn give_step<'r>(
         &self,
         operation: Operation<'_>,
         item: Item,
-        later: &Rest<'s>,
+        later: &Rest<'r>,
         into: &mut Vec<Val>,
     ) -> Result<(), Stop>
         ensures { GathersRun (result_of (operation_of operation.entry) (item_of item)) later.now result into.old.items into.new.items }
@@ -414,7 +412,12 @@ impl<'s> Context<'s> {
 
     // Runs the rest of the filter on items that are given one by one.
     #[cycle(single)]
-    fn give_all(&self, mut supply: Supply, rest: &Rest<'s>, into: &mut Vec<Val>) -> Result<(), Stop>
+    fn give_all<'r>(
+        &self,
+        mut supply: Supply,
+        rest: &Rest<'r>,
+        into: &mut Vec<Val>,
+    ) -> Result<(), Stop>
         ensures { GathersRun (supplied supply) rest.now result into.old.items into.new.items }
     {
         while let Some(item) = take_item(&mut supply) {
@@ -426,13 +429,13 @@ impl<'s> Context<'s> {
     // `f[g]` on an item with a path: the key is run first.
     #[cycle(single)]
     #[inline(never)]
-    fn gather_index(
+    fn gather_index<'r>(
         &self,
         target: &'s Tree,
         key: &'s Tree,
         guarded: bool,
         item: &Item,
-        rest: &Rest<'s>,
+        rest: &Rest<'r>,
         into: &mut Vec<Val>,
     ) -> Result<(), Stop>
         ensures { GathersOf self.now (form.index (named target.now) (named key.now) guarded) (item_of item.now) rest.now result into.old.items into.new.items }
@@ -446,36 +449,31 @@ impl<'s> Context<'s> {
         }
     }
 
-    // `path(f)`.
+    /// `path(f)`.
     #[cycle(single)]
     #[inline(never)]
-    fn gather_paths(
+    pub(crate) fn gather_paths<'r>(
         &self,
-        arguments: &'s [Tree],
+        tree: &'s Tree,
         value: &Val,
-        rest: &Rest<'s>,
+        rest: &Rest<'r>,
         into: &mut Vec<Val>,
     ) -> Result<(), Stop>
-        ensures { GathersBuiltin self.now meaning.paths (trees_of (map named arguments.now)) (plain (view value.now)) rest.now result into.old.items into.new.items }
+        ensures { GathersPaths self.now (named tree.now) (view value.now) rest.now result into.old.items into.new.items }
     {
-        match arguments {
-            [argument] => {
-                let start = Item::start(value.copy()?);
-                let next = Rest::Path(&*rest);
-                (&*self).gather(&*argument, &start, &next, into)
-            }
-            _ => Err(Stop::Unknown),
-        }
+        let start = Item::start(value.copy()?);
+        let next = Rest::Path(&*rest);
+        (&*self).gather(&*tree, &start, &next, into)
     }
 
     // `range(f; g)`, where f and g have at most one output.
     #[cycle(single)]
     #[inline(never)]
-    fn gather_range(
+    fn gather_range<'r>(
         &self,
         arguments: &'s [Tree],
         value: &Val,
-        rest: &Rest<'s>,
+        rest: &Rest<'r>,
         into: &mut Vec<Val>,
     ) -> Result<(), Stop>
         ensures { GathersBuiltin self.now meaning.range (trees_of (map named arguments.now)) (plain (view value.now)) rest.now result into.old.items into.new.items }
@@ -483,7 +481,10 @@ impl<'s> Context<'s> {
         match arguments {
             [start, end] => match self.get(start, value) {
                 Ok(first) => match self.get(end, value) {
-                    Ok(last) => self.give_range(&first, &last, rest, into),
+                    Ok(last) => match supply_of(&first, &last) {
+                        Some(numbers) => self.give_all(numbers, rest, into),
+                        None => Err(Stop::Unknown),
+                    },
                     Err(stop) => ended(stop),
                 },
                 Err(stop) => ended(stop),
@@ -491,28 +492,21 @@ impl<'s> Context<'s> {
             _ => Err(Stop::Unknown),
         }
     }
+}
 
-    // Runs the rest of the filter on each number between two values. If one of them is not a number, the machine runs the filter.
-    #[cycle(single)]
-    fn give_range(
-        &self,
-        start: &Val,
-        end: &Val,
-        rest: &Rest<'s>,
-        into: &mut Vec<Val>,
-    ) -> Result<(), Stop>
-        ensures { GathersRun (meaning.range_of (view start.now ∷ view end.now ∷ [])) rest.now result into.old.items into.new.items }
-    {
-        match (start, end) {
-            (Val::Num(start), Val::Num(end)) => {
-                let numbers = Numbers {
-                    next: Some(*start),
-                    end: *end,
-                };
-                self.give_all(Supply::Numbers(numbers), rest, into)
-            }
-            _ => Err(Stop::Unknown),
+// The numbers between two values. If one of them is not a number, the machine runs the filter.
+fn supply_of(start: &Val, end: &Val) -> Option<Supply>
+    ensures { IfSome result (λ s. supplied s ≡ meaning.range_of (view start.now ∷ view end.now ∷ [])) }
+{
+    match (start, end) {
+        (Val::Num(start), Val::Num(end)) => {
+            let numbers = Numbers {
+                next: Some(*start),
+                end: *end,
+            };
+            Some(Supply::Numbers(numbers))
         }
+        _ => None,
     }
 }
 

@@ -290,7 +290,7 @@ impl<'s> Context<'s> {
         }
     }
 
-    // The text of the remaining pieces of `"a\(f)b"` or `@name "a\(f)b"`.
+    // The text of the remaining pieces of `"a\(f)b"` or `@name "a\(f)b"`. A piece is run after those that follow it.
     #[cycle(single)]
     fn pieces(
         &self,
@@ -306,34 +306,20 @@ impl<'s> Context<'s> {
                 let text = String::from_str(self.alloc, last.as_str())?;
                 Ok(SharedText::from_string(self.alloc, text)?)
             }
-            [piece, later @ ..] => self.first_piece(format, piece, later, last, value),
+            [piece, later @ ..] => {
+                if self.fuel == 0 {
+                    return Err(Stop::Unknown);
+                }
+                let inside = Context {
+                    fuel: self.fuel - 1,
+                    ..*self
+                };
+                let back = inside.pieces(format, later, last, value)?;
+                let found = self.get(&piece.tree, value)?;
+                let front = piece.before.as_str();
+                inserted(text_in_format(self.alloc, format, front, &found, back.as_str())?)
+            }
         }
-    }
-
-    // A piece, and those after it, which are run first.
-    #[cycle(single)]
-    #[inline(never)]
-    fn first_piece(
-        &self,
-        format: &Name,
-        piece: &'s Piece<Tree>,
-        later: &'s [Piece<Tree>],
-        last: &String,
-        value: &Val,
-    ) -> Result<SharedText, Stop>
-        ensures { RunsPieces self.now (name_of format.now) (form.more_pieces (text_of piece.now.before) (named piece.now.tree) (named_pieces later.now last.now)) (view value.now) result }
-    {
-        if self.fuel == 0 {
-            return Err(Stop::Unknown);
-        }
-        let inside = Context {
-            fuel: self.fuel - 1,
-            ..*self
-        };
-        let back = inside.pieces(format, later, last, value)?;
-        let found = self.get(&piece.tree, value)?;
-        let front = piece.before.as_str();
-        inserted(text_in_format(self.alloc, format, front, &found, back.as_str())?)
     }
 
     // `{..}`. An entry that has a computed key and no value is not run at once.
@@ -364,28 +350,16 @@ impl<'s> Context<'s> {
                 let key = entry_key(key)?;
                 self.member(&key, filter, made, value)
             }
-            Entry::Computed(key, filter) => self.computed(key, filter, made, value),
+            // The key is run first. It must be a string.
+            Entry::Computed(key, filter) => {
+                let found = self.get(key, value)?;
+                let Val::Text(_) = &found else {
+                    return Err(Stop::Raised(key_error(self.alloc)?));
+                };
+                self.member(&found.into_text(), filter, made, value)
+            }
             Entry::Own(_) => Err(Stop::Unknown),
         }
-    }
-
-    // An entry with a computed key, which is run first. It must be a string.
-    #[cycle(single)]
-    #[inline(never)]
-    fn computed(
-        &self,
-        key: &'s Tree,
-        filter: &'s Tree,
-        made: Object<Val>,
-        value: &Val,
-    ) -> Result<Object<Val>, Stop>
-        ensures { AddsEntry self.now (form.computed (named key.now) (named filter.now)) (members_in made) (view value.now) result }
-    {
-        let found = self.get(key, value)?;
-        let Val::Text(_) = &found else {
-            return Err(Stop::Raised(key_error(self.alloc)?));
-        };
-        self.member(&found.into_text(), filter, made, value)
     }
 
     // An entry whose key is known.

@@ -9,13 +9,11 @@ mod finding;
 mod folding;
 mod gathering;
 mod getting;
-mod readings;
 mod rests;
 mod scopes;
 mod stops;
 mod updating;
 
 pub use changing::apply;
-pub use readings::is_reading;
 pub use stops::Stop;
 pub use updating::filters_of_update;

@@ -1,5 +1,5 @@
 // Updates (`f |= g`): the paths of f are gathered once, and each part becomes the first output of g, the only one that counts.
-ghost use Rattle.std.specs.Prelude.{◌≡◌, ◌++◌, ◌∷◌, [], IfOk, IfSome, OnOk, length, map};
+ghost use Rattle.std.specs.Prelude.{◌≡◌, ◌++◌, ◌∷◌, [], IfSome, OnOk, length, map};
 ghost use Rattle.jv_data.specs.Value.{Value};
 ghost use Rattle.jv_data.specs.View.{view};
 ghost use Rattle.jq_natives.specs.declared.native.Native.TheVariants.{DelPaths, SetPath};
@@ -8,19 +8,18 @@ ghost use Rattle.jq_tree.specs.WrittenOut.{modify};
 ghost use Rattle.jq_meaning.specs.Builtins.{plain_native};
 ghost use Rattle.jq_single.specs.Single.{Changed, Keeps};
 ghost use Rattle.jq_single.specs.private.Parts.{ChangesTo};
-ghost use Rattle.jq_single.specs.private.Updates.{ChangesParts, ChangesToFirst, FindsPaths, TakesTurn, TakesTurns, listed};
+ghost use Rattle.jq_single.specs.private.Updates.{ChangesToFirst, TakesTurn, TakesTurns, listed};
 ghost use Rattle.jq_tree.specs.Tree as form;
 
 use crate::changing::call_on;
 use crate::contexts::Context;
 use crate::finding::has_modify;
-use crate::readings::pays_for_copy;
 use crate::rests::Rest;
 use crate::stops::Stop;
 use jq_ast::Tree;
+use jq_heuristics::pays_for_copy;
 use jq_meaning::updates::an_update_is_its_turns;
 use jq_natives::Native;
-use jq_state::items::Item;
 use jv_data::{Array, NoMemory, Val};
 use jv_value::getpath;
 use jv_value::laws::deleting_no_path_changes_nothing;
@@ -30,7 +29,8 @@ use std::alloc::Global;
 const MOST: usize = 1_048_576;
 
 impl<'s> Context<'s> {
-    /// `f |= g`, where both filters are two calls deep. If `_modify` is not known to be the prelude's, it is not run at once.
+    /// `f |= g`, where both filters are two calls deep. If `_modify` is not known to be the prelude's, it is not run at once. One part is
+    /// changed in place. With more of them a copy of the value is changed, since `g` may not run at once on a later part.
     #[cycle(single)]
     #[inline(never)]
     pub(crate) fn change_update(&self, tree: &'s Tree, value: &mut Val) -> Result<(), Stop>
@@ -48,44 +48,22 @@ impl<'s> Context<'s> {
             depth: self.depth - 2,
             ..*self
         };
-        inside.change_parts(paths, update, value)
-    }
-
-    // The parts at the paths of a filter. One part is changed in place. With more of them a copy of the value is changed, since `g`
-    // may not run at once on a later part.
-    #[cycle(single)]
-    #[inline(never)]
-    fn change_parts(&self, paths: &'s Tree, update: &'s Tree, value: &mut Val) -> Result<(), Stop>
-        ensures runs { ChangesParts self.now (named paths.now) (named update.now) (view value.old) (view value.new) result }
-        ensures keeps { Keeps result (view value.old) (view value.new) }
-    {
-        let Ok(found) = self.paths_of(paths, value) else {
+        let mut found = Vec::new(self.alloc);
+        let end = Rest::End(MOST);
+        let Ok(()) = (&inside).gather_paths(paths, value, &end, &mut found) else {
             return Err(Stop::Unknown);
         };
         let found = found.as_slice();
         if found.len() == 1 && !self.kept {
-            return self.change_each(found, update, value);
+            return inside.change_each(found, update, value);
         }
         if !pays_for_copy(value, found) {
             return Err(Stop::Unknown);
         }
         let mut changed = value.copy()?;
-        self.change_each(found, update, &mut changed)?;
+        inside.change_each(found, update, &mut changed)?;
         *value = changed;
         Ok(())
-    }
-
-    /// The paths of a filter into a value.
-    #[cycle(single)]
-    fn paths_of(&self, tree: &'s Tree, value: &Val) -> Result<Vec<Val>, Stop>
-        ensures { IfOk result (λ paths. FindsPaths self.now (named tree.now) (view value.now) (map view paths.items)) }
-    {
-        let start = Item::start(value.copy()?);
-        let end = Rest::End(MOST);
-        let path = Rest::Path(&end);
-        let mut paths = Vec::new(self.alloc);
-        (&*self).gather(&*tree, &start, &path, &mut paths)?;
-        Ok(paths)
     }
 
     // One part after the other. The parts at the listed paths are deleted at the end.

@@ -13,11 +13,11 @@ use Rattle.jq_meaning.specs.Continuations.{on_source, on_state, on_target}
 use Rattle.jq_meaning.specs.Env.{bound, value_of}
 use Rattle.jq_meaning.specs.Folds.{next_state, reduced}
 use Rattle.jq_meaning.specs.Meaning.{below, bindings_with, meaning}
-use Rattle.jq_meaning.specs.Runs.{Item, plain, value_in, Done, Run, none, one, go_on, then_run, bind, gathered}
+use Rattle.jq_meaning.specs.Runs.{Item, plain, located, paths_in, value_in, Done, Run, none, one, go_on, then_run, bind, gathered}
 use Rattle.jq_meaning.specs.Steps.{each_part}
 use Rattle.jq_state.specs.Items.{item_of}
 use Rattle.jq_state.specs.declared.items.Item as items
-use Rattle.jq_single.specs.Single.{Changed, Comes, Ends}
+use Rattle.jq_single.specs.Single.{Comes, Ends}
 use Rattle.jq_single.specs.private.Parts.{ChangesTo, builtin_in, run}
 use Rattle.jq_single.specs.private.Scopes.{scope_env}
 use Rattle.jq_single.specs.declared.contexts.Context.{Context}
@@ -83,6 +83,11 @@ abbrev pub GathersOf : {A : Type 0} → Context → Tree → Item → Rest → R
 GathersOf p t x later result xs ys =
     (inputs : Run Value) (level : ℕ) → Gathers (made inputs level later) result xs ys (bind (run p inputs level t x) (rest_run inputs level later))
 
+-- The same for the paths of a tree into a value.
+abbrev pub GathersPaths : {A : Type 0} → Context → Tree → Value → Rest → Result A Stop → (before later : List Val) → Type 0
+GathersPaths p t v later result xs ys =
+    (inputs : Run Value) (level : ℕ) → Gathers (made inputs level later) result xs ys (bind (paths_in (run p inputs level t (located v []))) (rest_run inputs level later))
+
 -- The same for a name of the language.
 abbrev pub GathersBuiltin : {A : Type 0} → Context → Builtin → Trees → Item → Rest → Result A Stop → (before later : List Val) → Type 0
 GathersBuiltin p b ts x later result xs ys =
@@ -126,10 +131,6 @@ fold_run p inputs level t n u state v =
     let sources = bind (run p inputs level t (plain v)) (on_source (bindings_with (below p.depth) (whole n) level) (scope_env inputs p.scope.now)) in
     reduced (on_state (meaning p.depth u) level) sources.items sources.ending (plain state)
 
--- Its result takes the place of the input.
-abbrev pub FoldsFrom : {A : Type 0} → Context → (source : Tree) → Name → (update : Tree) → (state before later : Value) → Result A Stop → Type 0
-FoldsFrom p t n u state v w result = (inputs : Run Value) (level : ℕ) → Changed result w (fold_run p inputs level t n u state v)
-
--- The same from a start.
+-- The result of a fold from a start takes the place of the input.
 abbrev pub FoldsAs : {A : Type 0} → Context → (source : Tree) → Name → (start update : Tree) → (before later : Value) → Result A Stop → Type 0
 FoldsAs p t n start u v w result = ChangesTo p (reduce t (whole n) start u) v w result

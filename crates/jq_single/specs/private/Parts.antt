@@ -77,6 +77,10 @@ Calls p t (called.Body body ps own ts) =
 Calls p t (called.Builtin b ts) = (inputs : Run Value) (level : ℕ) (x : Item) → run p inputs level t x ≡ builtin_in p inputs level (meaning_of b) (trees_of (map named ts.now)) x
 Calls p t called.Unknown = Unit {0}
 
+-- A tree is run as another one, at a depth and in a scope of its own.
+abbrev pub IsRunAs : Context → Tree → (depth : ℕ) → (filter : Tree) → (own : Scope) → Type 0
+IsRunAs p t depth filter own = (inputs : Run Value) (level : ℕ) (x : Item) → run p inputs level t x ≡ meaning depth filter (scope_env inputs own) level x
+
 -- The body of a function is what each call runs whose run is that of the body.
 abbrev pub IsBodyOf : Called → Function ast.Tree → (own : Scope) → List ast.Tree → Type 0
 IsBodyOf called f own ts = (p : Context) (t : Tree) → RunsBody p t f own ts → Calls p t called

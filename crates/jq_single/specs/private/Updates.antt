@@ -1,11 +1,11 @@
 -- The results of the steps of an update.
-use Rattle.std.specs.Prelude.{◌≡◌, ℕ, suc, List, [], ◌∷◌, map, Result}
+use Rattle.std.specs.Prelude.{ℕ, suc, List, [], ◌∷◌, map, Result}
 use Rattle.jv_data.specs.Value.{Value, array, items_of}
 use Rattle.jv_data.specs.View.{view}
 use Rattle.jv_data.specs.declared.values.Val.{Val}
 use Rattle.jq_tree.specs.Tree.{Tree}
-use Rattle.jq_meaning.specs.Runs.{Item, Run, Done, ended, plain, located, one, paths_in, value_in}
-use Rattle.jq_meaning.specs.laws.Updating.{turn_of, turns, updated}
+use Rattle.jq_meaning.specs.Runs.{Item, Run, Done, ended, plain, one}
+use Rattle.jq_meaning.specs.laws.Updating.{turn_of, turns}
 use Rattle.jq_single.specs.Single.{Changed}
 use Rattle.jq_single.specs.declared.contexts.Context.{Context}
 use Rattle.jq_single.specs.declared.stops.Stop.{Stop}
@@ -16,17 +16,9 @@ use Rattle.jq_single.specs.private.Parts.{run}
 abbrev pub listed : List Val → Value
 listed ps = array (items_of (map view ps))
 
--- The paths of a tree into a value.
-abbrev pub path_run : Context → Run Value → (level : ℕ) → Tree → Value → Run Item
-path_run p inputs level t v = paths_in (run p inputs level t (located v []))
-
 -- The run of the new part. An update has a label of its own around it.
 abbrev pub part_run : Context → Run Value → (level : ℕ) → Tree → Value → Run Item
 part_run p inputs level t part = run p inputs (suc level) t (plain part)
-
--- These are all paths of a tree into a value.
-abbrev pub FindsPaths : Context → Tree → Value → List Value → Type 0
-FindsPaths p t v ps = (inputs : Run Value) (level : ℕ) → let r = path_run p inputs level t v in (map value_in r.items ≡ ps) × (r.ending ≡ Done)
 
 -- A turn at a path changes the value, and the list of the paths to delete, whatever is done with them.
 abbrev pub TakesTurn : {A : Type 0} → Context → (update : Tree) → (path v ds w es : Value) → Result A Stop → Type 0
@@ -37,11 +29,6 @@ TakesTurn p u path v ds w es result =
 abbrev pub TakesTurns : {A : Type 0} → Context → (update : Tree) → (paths : List Value) → (before later : Value) → Result A Stop → Type 0
 TakesTurns p u paths v w result =
     (inputs : Run Value) (level : ℕ) → Changed result w (turns level (part_run p inputs level u) paths Done v (array (items_of [])))
-
--- The update of the parts at the paths of a tree.
-abbrev pub ChangesParts : {A : Type 0} → Context → (paths update : Tree) → (before later : Value) → Result A Stop → Type 0
-ChangesParts p t u v w result =
-    (inputs : Run Value) (level : ℕ) → Changed result w (updated level (path_run p inputs level t v) (part_run p inputs level u) (plain v))
 
 -- ---- the first output, which is the only one that an update uses
 

@@ -1,5 +1,5 @@
-use Rattle.std.proofs.Common.{rules, Ok, [], suc, ◌≡◌, ◌∙◌, ◌-◌, arith, length, map, refl, sym, ap, subst}
-use Rattle.std.proofs.Math.Logic.{∥∥₁_elim}
+use Rattle.std.proofs.Common.{rules, List, Ok, [], suc, ◌≡◌, ◌≤◌, ◌∷◌, ◌∙◌, ◌-◌, arith, drop, get_or, length, map, refl, sym, ap, subst, take}
+use Rattle.std.proofs.lemmas.List.{drop_more, take_rest}
 use Rattle.jv_data.proofs.shared.Levels.{view-Text}
 use Rattle.jv_data.specs.Shared.{text_in}
 use Rattle.jv_data.specs.Value.{string}
@@ -10,28 +10,31 @@ use Rattle.jq_ast.specs.Named.{named, named_as_pattern}
 use Rattle.jq_ast.proofs.shared.Forms.{named-Field, named-Iterate, named-Object, named-Text, named-Whole}
 use Rattle.jq_tree.specs.Tree as form
 use Rattle.jq_tree.specs.Tree.{Tree, whole}
-use Rattle.jq_meaning.specs.machine.Operations.{path_item}
 use Rattle.jq_meaning.specs.Builtins.{range_of}
 use Rattle.jq_meaning.specs.Folds.{reduced}
 use Rattle.jq_meaning.specs.Meaning.{below, bindings_with, meaning}
-use Rattle.jq_meaning.specs.Continuations.{text_item, on_source, on_state, on_target, on_back, on_inserted, on_test, on_error, on_left, on_right}
+use Rattle.jq_meaning.specs.Continuations.{text_item, on_source, on_state, on_target, on_back, on_inserted, on_entry_key, on_test, on_error, on_left, on_right}
 use Rattle.jq_meaning.specs.Runs.{Run, Item, plain, located, as_value, none, one, bind}
 use Rattle.jq_single.specs.private.Scopes.{scope_env}
 use Rattle.jq_meaning.proofs.shared.machine.RunLaws.{bind-bind, bind-then_run}
 use Rattle.jq_single.specs.private.Gathering.{Gathers, made, rest_run, supplied, turn}
+use Rattle.jq_single.specs.private.Making.{entries_in}
 use Rattle.jq_operations.specs.Outputs.{outputs_of}
 use Rattle.jq_state.specs.Items.{item_of}
 use Rattle.jq_state.proofs.shared.Items.{absent, value_of_item}
-use Rattle.jq_single.specs.private.Updates.{listed, part_run, path_run}
+use Rattle.jq_single.specs.private.Updates.{listed, part_run}
 use Rattle.jq_single.specs.private.Parts.{run}
 use Rattle.jq_single.specs.Single.{Changed, Ends}
-use Rattle.jq_single.proofs.Binding.{part_stops, bind-known, comes-bind, ends-bind, gathers_fail, gathers_stops, known_runs, stops, with_variable, gathers-then, gathers_all, gives_first, stops_first, stops-then, gathered_list, gathered_same, items-same, bound_rest, fold_value, turned, fold_all, single_fold}
-use Rattle.jq_single.specs.declared.rests.Rest.TheVariants as rest
-use Rattle.jq_single.proofs.UpdateTurns.{changed-first, first-then, changed-prop, getpath_keys, listed_more, turn_lists, turn_raises, turn_sets, two_calls_deep}
-use Rattle.jq_single.proofs.Calls.{paths_run, paths-rest, body_runs, named-Identity, text_is, native_plain, one_value, two_chosen}
+use Rattle.jq_single.proofs.Binding.{part_stops, bind-known, comes-bind, ends-bind, gathers_fail, gathers_stops, known_runs, stops, with_variable, gathers-then, gathers_all, gives_first, stops_first, stops-then, items-same, bound_rest, fold_value, turned, fold_all, single_fold}
+use Rattle.jq_single.proofs.UpdateTurns.{changed-first, first-then, getpath_keys, listed_more, takes_turns, turn_lists, turn_raises, turn_sets}
+use Rattle.jq_single.proofs.Calls.{paths-rest, body_runs, named-Identity, text_is, native_plain, one_value, two_chosen}
 use Rattle.jq_single.proofs.contexts.Context.+single.Goals as goal
 
 -- ---- forms
+
+-- a first piece, and those after it
+split : {A : Type 0} (ps : List A) (p : A) → 1 ≤ length ps → p ≡ get_or ps 0 p → ps ≡ p ∷ take (length ps - 1) (drop 1 ps)
+split ps p h e = drop_more ps 0 p (omega arith) ∙ ap (λ q. q ∷ drop 1 ps) (sym e) ∙ ap (λ qs. p ∷ qs) (sym (take_rest ps 1))
 
 pub get_made-returns-in_ok-text-in-Text : goal.get_made-returns-in_ok-text-in-Text
 get_made-returns-in_ok-text-in-Text t c = λ inputs level.
@@ -50,12 +53,19 @@ get_made-returns-in-Field t c = λ inputs level.
 pub get_made-returns-in-Object : goal.get_made-returns-in-Object
 get_made-returns-in-Object t c = λ inputs level. rw (ap named c.in-Object.is ∙ named-Object c.in-Object.entries, ← c.as_slice-in-Object.ensures.value) (c.object.ensures inputs level)
 
-pub first_piece-returns : goal.first_piece-returns
+pub pieces-returns-in_ok-text_in_format-in-len1-up : goal.pieces-returns-in_ok-text_in_format-in-len1-up
 unfolding on_back on_inserted
-first_piece-returns t c = λ inputs level.
-    let made = rw (c.as_str-front.ensures.value, c.as_str.ensures) at c.in_ok-text_in_format.ensures in
-    comes-bind _ _ _ _ _ (c.in_ok-back.ensures inputs level)
-    (comes-bind _ _ _ _ _ (c.in_ok-found.ensures inputs level) (c.inserted.ensures (text_of c.args.piece.now.before) (text_in c.in_ok-back.back) _ made))
+pieces-returns-in_ok-text_in_format-in-len1-up t c = λ inputs level.
+    let made = rw (c.as_str-front.ensures.value, c.as_str-in-len1-up.ensures) at c.in_ok-text_in_format-in-len1-up.ensures in
+    rw (split c.args.pieces.now c.piece-item.result c.in-len1-up.len_at_least c.piece-item.is)
+    (comes-bind _ _ _ _ _ (c.in_ok-back-in-len1-up.ensures inputs level)
+    (comes-bind _ _ _ _ _ (c.in_ok-found-in-len1-up.ensures inputs level) (c.inserted.ensures (text_of c.piece-item.result.before) (text_in c.in_ok-back-in-len1-up.back) _ made)))
+
+pub with_entry-returns-in-Text : goal.with_entry-returns-in-Text
+unfolding on_entry_key
+with_entry-returns-in-Text t c = λ inputs level es.
+    rw c.in-Computed.is
+    (comes-bind _ _ _ _ _ (c.in_ok-found-in-Computed.ensures inputs level) (rw c.into_text.ensures (c.member-in-Computed.ensures inputs level (entries_in c.args.self.now inputs level es (view c.args.value.now)))))
 
 pub binary-returns : goal.binary-returns
 unfolding on_left on_right
@@ -90,18 +100,14 @@ gather-returns-in-Field t c = λ inputs level.
     subst (Gathers (made inputs level c.args.rest.now) c.gather-in-Field.result c.args.into.now.items c.gather-in-Field.new.into.items)
     (sym (ap (λ u. bind (go u) later) field ∙ bind-bind (go (named c.deref-in-Field.result.now)) (on_target c.in-Field.guarded (string (key_of c.in-Field.key))) later)) (c.gather-in-Field.ensures inputs level)
 
-pub gather_pipe-returns-in-Body : goal.gather_pipe-returns-in-Body
-gather_pipe-returns-in-Body t c = λ inputs level.
+pub gather_pipe-returns : goal.gather_pipe-returns
+gather_pipe-returns t c = λ inputs level.
     let p = c.args.self.now in
-    let e = scope_env inputs c.scope_of_call-scope.result in
-    let body = named c.in-Body.body.now in
     let go : Item → Run Item = run p inputs level (named c.args.second.now) in
     let later : Item → Run Item = rest_run inputs level c.args.rest.now in
     let first = run p inputs level (named c.args.first.now) (item_of c.args.item.now) in
-    let same : (x : Item) → go x ≡ meaning (p.depth - 1) body e level x = λ x.
-    (rw c.in-Body.is at c.called.ensures) inputs level x ∙ ap (λ z. below p.depth body z level x) (sym (c.scope_of_call-scope.ensures inputs)) ∙ sym (body_runs e p.depth (p.depth - 1) level body x (omega (arith, c.if-self-gt0.true))) in
     subst (Gathers (made inputs level c.args.rest.now) c.gather.result c.args.into.now.items c.gather.new.into.items)
-    (sym (bind-bind first go later ∙ items-same first.items first.ending _ _ (λ x. ap (λ r. bind r later) (same x)))) (c.gather.ensures inputs level)
+    (sym (bind-bind first go later ∙ items-same first.items first.ending _ _ (λ x. ap (λ r. bind r later) (c.entered-depth.ensures inputs level x)))) (c.gather.ensures inputs level)
 
 pub gather_index-returns-in-Err : goal.gather_index-returns-in-Err
 gather_index-returns-in-Err t c = λ inputs level.
@@ -148,16 +154,19 @@ gather_call-returns-else-self-eq0 t c = λ inputs level.
 pub gather_builtin-returns-in-NoOutputs : goal.gather_builtin-returns-in-NoOutputs
 gather_builtin-returns-in-NoOutputs t c = λ inputs level. rw c.in-NoOutputs.is (λ q. refl)
 
+pub gather_builtin-returns-in-len1 : goal.gather_builtin-returns-in-len1
+gather_builtin-returns-in-len1 t c = λ inputs level.
+    let only : length c.args.arguments.now ≡ 1 = omega (arith, c.in-len1.len_at_least, c.in-len1.len_below) in
+    rw (c.in-Paths.is, one_value c.args.arguments.now c.argument-item.result only c.argument-item.is, absent c.args.item.now (sym c.is_present.ensures ∙ c.if-is_present.false)) (c.gather_paths.ensures inputs level)
+
 pub gather_builtin-returns-in-Err : goal.gather_builtin-returns-in-Err
 gather_builtin-returns-in-Err t c = λ inputs level. c.ended.ensures inputs level c.args.rest.now _ c.args.into.now.items (ends-bind _ _ _ (rw (c.in_ok-found-in_default-builtin.ensures, ← absent c.args.item.now (sym c.is_present.ensures ∙ c.if-is_present.false)) at (c.in-Err.ensures.runs inputs level)))
 
-pub gather_paths-returns-in_ok-copy-in-len1 : goal.gather_paths-returns-in_ok-copy-in-len1
-gather_paths-returns-in_ok-copy-in-len1 t c = λ inputs level.
-    let start = c.start-start.ensures ∙ ap (λ v. located v []) c.in_ok-copy-in-len1.ensures in
-    let only : length c.args.arguments.now ≡ 1 = omega (arith, c.in-len1.len_at_least, c.in-len1.len_below) in
-    subst (Gathers (made inputs level c.args.rest.now) c.gather.result c.args.into.now.items c.gather.new.into.items)
-    (sym (paths_run c.args.self.now inputs level c.args.arguments.now c.argument-item.result (view c.args.value.now) (item_of c.start-start.result) (rest_run inputs level c.args.rest.now) only c.argument-item.is start))
-    (c.gather.ensures inputs level)
+pub gather_paths-returns : goal.gather_paths-returns
+gather_paths-returns t c = λ inputs level.
+    let start = c.start-start.ensures ∙ ap (λ v. located v []) c.in_ok-copy.ensures in
+    let go : Item → Run Item = run c.args.self.now inputs level (named c.args.tree.now) in
+    rw (paths-rest (go (located (view c.args.value.now) [])) (rest_run inputs level c.args.rest.now), ← start) (c.gather.ensures inputs level)
 
 pub give_all-returns : goal.give_all-returns
 give_all-returns t c = λ inputs level.
@@ -179,10 +188,10 @@ pub give-returns-in-Fold : goal.give-returns-in-Fold
 give-returns-in-Fold t c = λ inputs level.
     rw c.in-Fold.is (fold_value c.in-Fold.context.now inputs level (text_of c.in-Fold.name.now) (named c.in-Fold.update.now) c.turn.result c.args.into.now.items c.turn.new.states.items (item_of c.args.item) (view c.args.item.value) (value_of_item c.args.item) (c.turn.ensures inputs level))
 
-pub gather_range-returns-in-Ok-get : goal.gather_range-returns-in-Ok-get
-gather_range-returns-in-Ok-get t c = λ inputs level.
+pub gather_range-returns-in-Some : goal.gather_range-returns-in-Some
+gather_range-returns-in-Some t c = λ inputs level.
     let same = two_chosen c.args.self.now inputs level range_of c.args.arguments.now c.start-item.result c.end-item.result (view c.args.value.now) (omega (arith, c.in-len2.len_at_least, c.in-len2.len_below)) c.start-item.is c.end-item.is in
-    rw (same ∙ bind-known _ _ _ (c.in-Ok.ensures inputs level) ∙ bind-known _ _ _ (c.in-Ok-get.ensures inputs level)) (c.give_range.ensures inputs level)
+    rw (same ∙ bind-known _ _ _ (c.in-Ok.ensures inputs level) ∙ bind-known _ _ _ (c.in-Ok-get.ensures inputs level)) (rw (c.in-Some.ensures) at (c.give_all.ensures inputs level))
 
 pub gather_range-returns-in-Ok : goal.gather_range-returns-in-Ok
 gather_range-returns-in-Ok t c = λ inputs level.
@@ -199,41 +208,49 @@ give_step-returns-in-Error t c = λ inputs level. gathers_fail inputs level c.ar
 
 -- ---- folds
 
-pub fold-returns-clause-runs : goal.fold-returns-clause-runs
-fold-returns-clause-runs t c = λ inputs level.
-    fold_all c.args.self.now inputs level (named c.args.source.now) (text_of c.args.name.now) (named c.args.update.now) c.keep.new.states.items (view c.args.state) (view c.args.value.now) (item_of c.plain-input.result)
+pub change_from-returns-clause-runs : goal.change_from-returns-clause-runs
+change_from-returns-clause-runs t c = λ inputs level.
+    let p = c.args.self.now in
+    let x : Item = plain (view c.args.value.now) in
+    let sources = bind (run p inputs level (named c.args.source.now) x) (on_source (bindings_with (below p.depth) (whole (text_of c.args.name.now)) level) (scope_env inputs p.scope.now)) in
+    bind-known (run p inputs level (named c.args.start.now) x) (plain (view c.in_ok-state.state)) (reduced (on_state (meaning p.depth (named c.args.update.now)) level) sources.items sources.ending) (c.in_ok-state.ensures inputs level)
+    ∙ fold_all p inputs level (named c.args.source.now) (text_of c.args.name.now) (named c.args.update.now) c.keep.new.states.items (view c.in_ok-state.state) (view c.args.value.now) (item_of c.plain-input.result)
     c.in_ok-keep.ensures (c.plain-input.ensures ∙ ap plain c.in_ok-copy.ensures) ∙ c.in_ok-gather.ensures inputs level none ∙ ap one c.in-Some.ensures
 
-pub fold-returns-in_err-gather-clause-runs : goal.fold-returns-in_err-gather-clause-runs
-fold-returns-in_err-gather-clause-runs t c = λ inputs level.
-    stops _ _ _ _ c.from_residual-in_err-gather.ensures.1 (subst (Ends c.in_err-gather.field-0.0) (sym (fold_all c.args.self.now inputs level (named c.args.source.now) (text_of c.args.name.now) (named c.args.update.now) c.keep.new.states.items (view c.args.state) (view c.args.value.now) (item_of c.plain-input.result)
-    c.in_ok-keep.ensures (c.plain-input.ensures ∙ ap plain c.in_ok-copy.ensures))) (c.in_err-gather.ensures inputs level none))
+pub change_from-returns-in_err-gather-clause-runs : goal.change_from-returns-in_err-gather-clause-runs
+change_from-returns-in_err-gather-clause-runs t c = λ inputs level.
+    comes-bind _ _ _ _ _ (c.in_ok-state.ensures inputs level)
+    (stops _ _ _ _ c.from_residual-in_err-gather.ensures.1 (subst (Ends c.in_err-gather.field-0.0) (sym (fold_all c.args.self.now inputs level (named c.args.source.now) (text_of c.args.name.now) (named c.args.update.now) c.keep.new.states.items (view c.in_ok-state.state) (view c.args.value.now) (item_of c.plain-input.result)
+    c.in_ok-keep.ensures (c.plain-input.ensures ∙ ap plain c.in_ok-copy.ensures))) (c.in_err-gather.ensures inputs level none)))
 
 pub collect-returns : goal.collect-returns
 collect-returns t c =
     gathers_all c.args.self.now (named c.args.tree.now) (view c.args.value.now) c.args.most c.gather.result c.args.into.now.items c.gather.new.into.items (item_of c.plain-input.result)
     (c.plain-input.ensures ∙ ap plain c.in_ok-copy.ensures) c.requires c.gather.ensures
 
-pub change_fold-returns-in-len1-clause-runs : goal.change_fold-returns-in-len1-clause-runs
-change_fold-returns-in-len1-clause-runs t c = λ is inputs level.
+pub change_reduce-returns-in-len1-clause-runs : goal.change_reduce-returns-in-len1-clause-runs
+change_reduce-returns-in-len1-clause-runs t c = λ inputs level.
     let p = c.args.self.now in
     let x : Item = plain (view c.args.value.now) in
     let r = run p inputs level (named c.args.source.now) x in
     let u = meaning p.depth (named c.args.update.now) in
-    let n = text_of c.args.name.now in
+    let n = text_of c.in-Whole.name in
     let sources = bind r (on_source (bindings_with (below p.depth) (whole n) level) (scope_env inputs p.scope.now)) in
     let only : length c.as_slice.result.now ≡ 1 = omega (arith, c.in-len1.len_at_least, c.in-len1.len_below) in
     let values = sym c.as_slice.ensures.value ∙ one_value c.as_slice.result.now c.single-item.result only c.single-item.is in
     let same = single_fold (below p.depth) level n (scope_env inputs p.scope.now) u r.items r.ending (view c.single-item.result) x (rw values at (c.in-Ok.ensures inputs level)) in
-    rw is
+    rw (ap named_as_pattern c.in-Whole.is ∙ named-Whole c.in-Whole.name, ap named c.in-Identity.is ∙ named-Identity)
     (comes-bind _ c.step.result (one x) x (reduced (on_state u level) sources.items sources.ending) refl
     (subst (Changed c.step.result (view c.step.new.state)) (sym same) (c.step.ensures.runs inputs level one)))
 
-pub change_reduce-returns-in-Identity-clause-runs : goal.change_reduce-returns-in-Identity-clause-runs
-change_reduce-returns-in-Identity-clause-runs t c = λ inputs level. rw (ap named_as_pattern c.in-Whole.is ∙ named-Whole c.in-Whole.name) (c.change_fold.ensures.runs (ap named c.in-Identity.is ∙ named-Identity) inputs level)
+pub change_reduce-returns-in_default-start : goal.change_reduce-returns-in_default-start
+change_reduce-returns-in_default-start t c =
+    let same = ap named_as_pattern c.in-Whole.is ∙ named-Whole c.in-Whole.name in
+    record { runs = λ inputs level. rw same (c.change_from.ensures.runs inputs level); keeps = c.change_from.ensures.keeps }
 
-pub change_reduce-returns-in_default-start-clause-runs : goal.change_reduce-returns-in_default-start-clause-runs
-change_reduce-returns-in_default-start-clause-runs t c = λ inputs level. rw (ap named_as_pattern c.in-Whole.is ∙ named-Whole c.in-Whole.name) (c.change_from.ensures.runs inputs level)
+pub change_reduce-returns-in_default-as_slice-clause-runs : goal.change_reduce-returns-in_default-as_slice-clause-runs
+change_reduce-returns-in_default-as_slice-clause-runs t c = λ inputs level.
+    rw (ap named_as_pattern c.in-Whole.is ∙ named-Whole c.in-Whole.name) (c.change_from-in_default-as_slice.ensures.runs inputs level)
 
 pub turn-returns : goal.turn-returns
 turn-returns t c = λ inputs level.
@@ -263,32 +280,23 @@ pub change_first_of_two-returns-in-Err-Raised-clause-runs : goal.change_first_of
 change_first_of_two-returns-in-Err-Raised-clause-runs t c = λ inputs level.
     first-then (run c.args.self.now inputs level (named c.args.left.now) (plain (view c.args.value.now))) (run c.args.self.now inputs level (named c.args.right.now) (plain (view c.args.value.now))) _ ((rw (c.in-Err-Raised.field-0-is, c.in_ok-output.ensures) at c.in-Err-Raised.ensures.runs) inputs level)
 
+pub change_update-returns-then-not-self-clause-runs : goal.change_update-returns-then-not-self-clause-runs
+change_update-returns-then-not-self-clause-runs t c =
+    takes_turns c.an_update_is_its_turns.ensures c.args.self.now (c.args.self.now.depth - 2) (named c.args.tree.now) (named c.in-Some.paths.now) (named c.in-Some.update.now) (view c.args.value.now) 1048576 (tt {0}) c.new-found.result.items c.gather_paths.new.into.items
+    c.in-Some.ensures (omega arith) c.new-found.ensures.items (c.has_modify.ensures (search rules)) c.in-Ok.ensures c.change_each.result (view c.change_each.new.value) (rw (← c.as_slice-found.ensures.value) (c.change_each.ensures.runs))
+
+pub change_update-returns-in_err-change_each-clause-runs : goal.change_update-returns-in_err-change_each-clause-runs
+change_update-returns-in_err-change_each-clause-runs t c =
+    takes_turns c.an_update_is_its_turns.ensures c.args.self.now (c.args.self.now.depth - 2) (named c.args.tree.now) (named c.in-Some.paths.now) (named c.in-Some.update.now) (view c.args.value.now) 1048576 (tt {0}) c.new-found.result.items c.gather_paths.new.into.items
+    c.in-Some.ensures (omega arith) c.new-found.ensures.items (c.has_modify.ensures (search rules)) c.in-Ok.ensures
+    c.from_residual-in_err-change_each.result (view c.args.value.now)
+    (λ inputs level. stops _ _ _ _ c.from_residual-in_err-change_each.ensures.1 (rw (← c.as_slice-found.ensures.value, ← c.in_ok-changed.ensures) (c.in_err-change_each.ensures.runs inputs level)))
+
 pub change_update-returns-clause-runs : goal.change_update-returns-clause-runs
-change_update-returns-clause-runs t c = λ inputs level.
-    let p = c.args.self.now in
-    let e = scope_env inputs p.scope.now in
-    let v = view c.args.value.now in
-    let f = named c.in-Some.paths.now in
-    let g = named c.in-Some.update.now in
-    let done = Changed c.change_parts.result (view c.change_parts.new.value) in
-    ∥∥₁_elim (c.has_modify.ensures (search rules) inputs) (changed-prop c.change_parts.result (view c.change_parts.new.value) _)
-    (λ has.
-    subst done (sym (ap (λ u. run p inputs level u (plain v)) c.in-Some.ensures ∙ c.an_update_is_its_turns.ensures p.depth f g e level (plain v) has ∙ two_calls_deep p.depth (p.depth - 2) f g e level v (omega arith)))
-    (c.change_parts.ensures.runs inputs level))
-
-pub change_parts-returns-then-not-self-clause-runs : goal.change_parts-returns-then-not-self-clause-runs
-change_parts-returns-then-not-self-clause-runs t c = λ inputs level.
-    let found = c.in-Ok.ensures inputs level in
-    rw (found.0, found.1, ← c.as_slice-found.ensures.value) (c.change_each.ensures.runs inputs level)
-
-pub paths_of-returns : goal.paths_of-returns
-paths_of-returns t c = λ inputs level.
-    let go : Item → Run Item = run c.args.self.now inputs level (named c.args.tree.now) in
-    let r : Run Item = path_run c.args.self.now inputs level (named c.args.tree.now) (view c.args.value.now) in
-    let added = ap (λ (x : Item). bind (go x) (λ y. bind (path_item y) one)) (c.start-start.ensures ∙ ap (λ v. located v []) c.in_ok-copy.ensures) ∙ sym (paths-rest (go (located (view c.args.value.now) [])) one) in
-    gathered_same r.items r.ending (map view c.gather.new.into.items)
-    (gathered_list inputs level 1048576 (tt {0}) c.new-paths.result.items c.gather.new.into.items r c.new-paths.ensures.items
-    (subst (Gathers (made inputs level (rest.End 1048576)) (Ok (tt {0})) c.new-paths.result.items c.gather.new.into.items) added (c.in_ok-gather.ensures inputs level)))
+change_update-returns-clause-runs t c =
+    takes_turns c.an_update_is_its_turns.ensures c.args.self.now (c.args.self.now.depth - 2) (named c.args.tree.now) (named c.in-Some.paths.now) (named c.in-Some.update.now) (view c.args.value.now) 1048576 (tt {0}) c.new-found.result.items c.gather_paths.new.into.items
+    c.in-Some.ensures (omega arith) c.new-found.ensures.items (c.has_modify.ensures (search rules)) c.in-Ok.ensures
+    (Ok (tt {0})) (view c.change_each-2.new.value) (λ inputs level. rw (← c.as_slice-found.ensures.value, ← c.in_ok-changed.ensures) (c.in_ok-change_each.ensures.runs inputs level))
 
 pub change_part-returns-in-Ok-change_first-clause-turn : goal.change_part-returns-in-Ok-change_first-clause-turn
 change_part-returns-in-Ok-change_first-clause-turn t c = λ inputs level go.

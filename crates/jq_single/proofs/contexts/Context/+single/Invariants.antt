@@ -66,26 +66,17 @@ decreases-object l = 32 * l.self.now.fuel + 11
 abbrev pub decreases-with_entry : goal.decreases-with_entry
 decreases-with_entry l = 32 * l.self.now.fuel + 9
 
-abbrev pub decreases-computed : goal.decreases-computed
-decreases-computed l = 32 * l.self.now.fuel + 8
-
 abbrev pub decreases-member : goal.decreases-member
 decreases-member l = 32 * l.self.now.fuel + 6
 
 abbrev pub decreases-pieces : goal.decreases-pieces
 decreases-pieces l = 32 * l.self.now.fuel + 11
 
-abbrev pub decreases-first_piece : goal.decreases-first_piece
-decreases-first_piece l = 32 * l.self.now.fuel + 10
-
 abbrev pub decreases-change_from : goal.decreases-change_from
 decreases-change_from l = 32 * l.self.now.fuel + 4
 
 abbrev pub decreases-collect : goal.decreases-collect
 decreases-collect l = 32 * l.self.now.fuel + 1
-
-abbrev pub decreases-fold : goal.decreases-fold
-decreases-fold l = 32 * l.self.now.fuel + 3
 
 abbrev pub decreases-change : goal.decreases-change
 decreases-change l = 32 * l.self.now.fuel
@@ -117,9 +108,6 @@ decreases-change_native l = 32 * l.self.now.fuel + 3
 abbrev pub decreases-change_reduce : goal.decreases-change_reduce
 decreases-change_reduce l = 32 * l.self.now.fuel + 7
 
-abbrev pub decreases-change_fold : goal.decreases-change_fold
-decreases-change_fold l = 32 * l.self.now.fuel + 5
-
 abbrev pub decreases-step : goal.decreases-step
 decreases-step l = 32 * l.self.now.fuel + 2
 
@@ -128,12 +116,6 @@ decreases-turn l = 32 * l.self.now.fuel + 3
 
 abbrev pub decreases-change_update : goal.decreases-change_update
 decreases-change_update l = 32 * l.self.now.fuel + 11
-
-abbrev pub decreases-change_parts : goal.decreases-change_parts
-decreases-change_parts l = 32 * l.self.now.fuel + 9
-
-abbrev pub decreases-paths_of : goal.decreases-paths_of
-decreases-paths_of l = 32 * l.self.now.fuel + 5
 
 abbrev pub decreases-change_each : goal.decreases-change_each
 decreases-change_each l = 32 * l.self.now.fuel + 7
@@ -194,9 +176,6 @@ decreases-give_step l = 32 * l.self.now.fuel + 3
 
 abbrev pub decreases-give_all : goal.decreases-give_all
 decreases-give_all l = 32 * l.self.now.fuel + 6
-
-abbrev pub decreases-give_range : goal.decreases-give_range
-decreases-give_range l = 32 * l.self.now.fuel + 7
 
 -- ---- loops: the remaining items have the same result after what was added as all of them had at first
 

@@ -1,10 +1,36 @@
-// Which filters are run at once. This is only advice: a filter that is not run at once does its first transition.
-use jq_ast::{Core, Name, Pattern, Referent, Tree};
-use jq_single::is_reading;
+// Filters by their form.
+use jq_ast::{Core, Name, Operator, Pattern, Referent, Tree};
+
+/// Whether a filter makes a value, or takes a part of its input, and does not change the input. A sum or a product may change
+/// its left operand in place.
+pub fn is_reading(tree: &Tree) -> bool {
+    match tree {
+        Tree::Binary(operator, _, _) => !matches!(operator, Operator::Plus | Operator::Times),
+        Tree::Reduce(_, _, start, _) => !matches!(&**start, Tree::Identity),
+        Tree::Field(_, _, _) | Tree::Index(_, _, _) | Tree::Slice(_, _, _, _) => true,
+        Tree::And(_, _) | Tree::Or(_, _) | Tree::Negation(_) => true,
+        Tree::Array(_) | Tree::Object(_) | Tree::Text(_, _, _) | Tree::Format(_) => true,
+        Tree::Identity | Tree::Empty | Tree::Literal(_) | Tree::Variable(_) => true,
+        _ => false,
+    }
+}
+
+/// Whether a filter does not change its input, or changes each part of it, so that it may change a copy.
+pub fn goes_over_all(tree: &Tree) -> bool {
+    match tree {
+        Tree::Choice(_, holds, fails) => goes_over_all(holds) && goes_over_all(fails),
+        // Functions of the prelude that make a new value or go over all parts of their input.
+        Tree::Call(name, _) => matches!(
+            name.text.as_str(),
+            "map" | "map_values" | "to_entries" | "from_entries" | "with_entries" | "walk"
+        ),
+        _ => is_reading(tree),
+    }
+}
 
 /// Whether a filter may have at most one output. What changes its input before a `|` is left to the machine, where nobody else
 /// holds the input.
-pub(crate) fn is_tried(tree: &Tree) -> bool {
+pub fn is_tried(tree: &Tree) -> bool {
     match tree {
         Tree::Binary(_, _, _) => true,
         Tree::Alternative(_, _) => true,
@@ -19,7 +45,7 @@ pub(crate) fn is_tried(tree: &Tree) -> bool {
 
 /// Whether a filter is an update, `f |= g`.
 #[inline(always)]
-pub(crate) fn is_update(tree: &Tree) -> bool {
+pub fn is_update(tree: &Tree) -> bool {
     match tree {
         Tree::Update(_, _) => true,
         _ => false,
@@ -63,7 +89,7 @@ fn may_run(name: &Name) -> bool {
 }
 
 /// Whether a filter makes a value of simple parts.
-pub(crate) fn is_small(tree: &Tree) -> bool {
+pub fn is_small(tree: &Tree) -> bool {
     match tree {
         Tree::Field(target, _, _) => is_simple(target),
         Tree::Index(target, key, _) => is_simple(target) && is_simple(key),
@@ -82,7 +108,7 @@ pub(crate) fn is_small(tree: &Tree) -> bool {
 }
 
 /// Whether a filter is a part of the input, a variable or a constant, or makes a value of two of these.
-pub(crate) fn is_simple(tree: &Tree) -> bool {
+pub fn is_simple(tree: &Tree) -> bool {
     match tree {
         Tree::Field(target, _, _) => is_part(target),
         Tree::Index(target, key, _) => is_part(target) && is_part(key),

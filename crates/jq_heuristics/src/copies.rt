@@ -1,6 +1,4 @@
-// Filters that do not change their input, and values that are cheap to copy. This only decides how a
-// filter is run: no contract depends on it.
-use jq_ast::{Operator, Tree};
+// Values by what it costs to copy them.
 use jv_data::Val;
 
 // A string of at most this many bytes is cheap to copy.
@@ -10,33 +8,6 @@ const SHORT: usize = 64;
 const FOR_ALL: usize = 64;
 
 const FOR_EACH: usize = 16;
-
-/// Whether a filter makes a value, or takes a part of its input, and does not change the input. A sum or a product may change
-/// its left operand in place.
-pub fn is_reading(tree: &Tree) -> bool {
-    match tree {
-        Tree::Binary(operator, _, _) => !matches!(operator, Operator::Plus | Operator::Times),
-        Tree::Reduce(_, _, start, _) => !matches!(&**start, Tree::Identity),
-        Tree::Field(_, _, _) | Tree::Index(_, _, _) | Tree::Slice(_, _, _, _) => true,
-        Tree::And(_, _) | Tree::Or(_, _) | Tree::Negation(_) => true,
-        Tree::Array(_) | Tree::Object(_) | Tree::Text(_, _, _) | Tree::Format(_) => true,
-        Tree::Identity | Tree::Empty | Tree::Literal(_) | Tree::Variable(_) => true,
-        _ => false,
-    }
-}
-
-/// Whether a filter does not change its input, or changes each part of it, so that it may change a copy.
-pub fn goes_over_all(tree: &Tree) -> bool {
-    match tree {
-        Tree::Choice(_, holds, fails) => goes_over_all(holds) && goes_over_all(fails),
-        // Functions of the prelude that make a new value or go over all parts of their input.
-        Tree::Call(name, _) => matches!(
-            name.text.as_str(),
-            "map" | "map_values" | "to_entries" | "from_entries" | "with_entries" | "walk"
-        ),
-        _ => is_reading(tree),
-    }
-}
 
 /// Whether a fold over some values changes a copy of its input in no more time than its steps take. The values are paths of
 /// parts that are changed, as those of an assignment; of others this is not known.
