@@ -64,8 +64,7 @@ pieces-returns-in_ok-text_in_format-in-len1-up t c = λ inputs level.
 pub with_entry-returns-in-Text : goal.with_entry-returns-in-Text
 unfolding on_entry_key
 with_entry-returns-in-Text t c = λ inputs level es.
-    rw c.in-Computed.is
-    (comes-bind _ _ _ _ _ (c.in_ok-found-in-Computed.ensures inputs level) (rw c.into_text.ensures (c.member-in-Computed.ensures inputs level (entries_in c.args.self.now inputs level es (view c.args.value.now)))))
+    rw c.in-Computed.is (comes-bind _ _ _ _ _ (c.in_ok-found-in-Computed.ensures inputs level) (rw c.into_text.ensures (c.member-in-Computed.ensures inputs level (entries_in c.args.self.now inputs level es (view c.args.value.now)))))
 
 pub binary-returns : goal.binary-returns
 unfolding on_left on_right
@@ -249,8 +248,7 @@ change_reduce-returns-in_default-start t c =
     record { runs = λ inputs level. rw same (c.change_from.ensures.runs inputs level); keeps = c.change_from.ensures.keeps }
 
 pub change_reduce-returns-in_default-as_slice-clause-runs : goal.change_reduce-returns-in_default-as_slice-clause-runs
-change_reduce-returns-in_default-as_slice-clause-runs t c = λ inputs level.
-    rw (ap named_as_pattern c.in-Whole.is ∙ named-Whole c.in-Whole.name) (c.change_from-in_default-as_slice.ensures.runs inputs level)
+change_reduce-returns-in_default-as_slice-clause-runs t c = λ inputs level. rw (ap named_as_pattern c.in-Whole.is ∙ named-Whole c.in-Whole.name) (c.change_from-in_default-as_slice.ensures.runs inputs level)
 
 pub turn-returns : goal.turn-returns
 turn-returns t c = λ inputs level.
@@ -282,20 +280,16 @@ change_first_of_two-returns-in-Err-Raised-clause-runs t c = λ inputs level.
 
 pub change_update-returns-then-not-self-clause-runs : goal.change_update-returns-then-not-self-clause-runs
 change_update-returns-then-not-self-clause-runs t c =
-    takes_turns c.an_update_is_its_turns.ensures c.args.self.now (c.args.self.now.depth - 2) (named c.args.tree.now) (named c.in-Some.paths.now) (named c.in-Some.update.now) (view c.args.value.now) 1048576 (tt {0}) c.new-found.result.items c.gather_paths.new.into.items
-    c.in-Some.ensures (omega arith) c.new-found.ensures.items (c.has_modify.ensures (search rules)) c.in-Ok.ensures c.change_each.result (view c.change_each.new.value) (rw (← c.as_slice-found.ensures.value) (c.change_each.ensures.runs))
+    takes_turns c.an_update_is_its_turns.ensures c.args.self.now (c.args.self.now.depth - 2) (named c.args.tree.now) (named c.in-Some.paths.now) (named c.in-Some.update.now) (view c.args.value.now) 1048576 (tt {0}) c.new-found.result.items c.gather_paths.new.into.items c.in-Some.ensures (omega arith) c.new-found.ensures.items (c.has_modify.ensures (search rules)) c.in-Ok.ensures c.change_each.result (view c.change_each.new.value) (rw (← c.as_slice-found.ensures.value) (c.change_each.ensures.runs))
 
 pub change_update-returns-in_err-change_each-clause-runs : goal.change_update-returns-in_err-change_each-clause-runs
 change_update-returns-in_err-change_each-clause-runs t c =
-    takes_turns c.an_update_is_its_turns.ensures c.args.self.now (c.args.self.now.depth - 2) (named c.args.tree.now) (named c.in-Some.paths.now) (named c.in-Some.update.now) (view c.args.value.now) 1048576 (tt {0}) c.new-found.result.items c.gather_paths.new.into.items
-    c.in-Some.ensures (omega arith) c.new-found.ensures.items (c.has_modify.ensures (search rules)) c.in-Ok.ensures
-    c.from_residual-in_err-change_each.result (view c.args.value.now)
+    takes_turns c.an_update_is_its_turns.ensures c.args.self.now (c.args.self.now.depth - 2) (named c.args.tree.now) (named c.in-Some.paths.now) (named c.in-Some.update.now) (view c.args.value.now) 1048576 (tt {0}) c.new-found.result.items c.gather_paths.new.into.items c.in-Some.ensures (omega arith) c.new-found.ensures.items (c.has_modify.ensures (search rules)) c.in-Ok.ensures c.from_residual-in_err-change_each.result (view c.args.value.now)
     (λ inputs level. stops _ _ _ _ c.from_residual-in_err-change_each.ensures.1 (rw (← c.as_slice-found.ensures.value, ← c.in_ok-changed.ensures) (c.in_err-change_each.ensures.runs inputs level)))
 
 pub change_update-returns-clause-runs : goal.change_update-returns-clause-runs
 change_update-returns-clause-runs t c =
-    takes_turns c.an_update_is_its_turns.ensures c.args.self.now (c.args.self.now.depth - 2) (named c.args.tree.now) (named c.in-Some.paths.now) (named c.in-Some.update.now) (view c.args.value.now) 1048576 (tt {0}) c.new-found.result.items c.gather_paths.new.into.items
-    c.in-Some.ensures (omega arith) c.new-found.ensures.items (c.has_modify.ensures (search rules)) c.in-Ok.ensures
+    takes_turns c.an_update_is_its_turns.ensures c.args.self.now (c.args.self.now.depth - 2) (named c.args.tree.now) (named c.in-Some.paths.now) (named c.in-Some.update.now) (view c.args.value.now) 1048576 (tt {0}) c.new-found.result.items c.gather_paths.new.into.items c.in-Some.ensures (omega arith) c.new-found.ensures.items (c.has_modify.ensures (search rules)) c.in-Ok.ensures
     (Ok (tt {0})) (view c.change_each-2.new.value) (λ inputs level. rw (← c.as_slice-found.ensures.value, ← c.in_ok-changed.ensures) (c.in_ok-change_each.ensures.runs inputs level))
 
 pub change_part-returns-in-Ok-change_first-clause-turn : goal.change_part-returns-in-Ok-change_first-clause-turn
