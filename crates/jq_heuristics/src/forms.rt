@@ -1,20 +1,6 @@
 // Filters by their form.
 use jq_ast::{Core, Name, Operator, Pattern, Referent, Tree};
 
-/// Whether a filter makes a value, or takes a part of its input, and does not change the input. A sum or a product may change
-/// its left operand in place.
-pub fn is_reading(tree: &Tree) -> bool {
-    match tree {
-        Tree::Binary(operator, _, _) => !matches!(operator, Operator::Plus | Operator::Times),
-        Tree::Reduce(_, _, start, _) => !matches!(&**start, Tree::Identity),
-        Tree::Field(_, _, _) | Tree::Index(_, _, _) | Tree::Slice(_, _, _, _) => true,
-        Tree::And(_, _) | Tree::Or(_, _) | Tree::Negation(_) => true,
-        Tree::Array(_) | Tree::Object(_) | Tree::Text(_, _, _) | Tree::Format(_) => true,
-        Tree::Identity | Tree::Empty | Tree::Literal(_) | Tree::Variable(_) => true,
-        _ => false,
-    }
-}
-
 /// Whether a filter does not change its input, or changes each part of it, so that it may change a copy.
 pub fn goes_over_all(tree: &Tree) -> bool {
     match tree {
@@ -58,6 +44,20 @@ fn is_value(tree: &Tree) -> bool {
         Tree::Empty => true,
         Tree::Literal(_) => true,
         Tree::Variable(_) => true,
+        _ => false,
+    }
+}
+
+// Whether a filter makes a value, or takes a part of its input, and does not change the input. A sum or a product may change
+// its left operand in place.
+fn is_reading(tree: &Tree) -> bool {
+    match tree {
+        Tree::Binary(operator, _, _) => !matches!(operator, Operator::Plus | Operator::Times),
+        Tree::Reduce(_, _, start, _) => !matches!(&**start, Tree::Identity),
+        Tree::Field(_, _, _) | Tree::Index(_, _, _) | Tree::Slice(_, _, _, _) => true,
+        Tree::And(_, _) | Tree::Or(_, _) | Tree::Negation(_) => true,
+        Tree::Array(_) | Tree::Object(_) | Tree::Text(_, _, _) | Tree::Format(_) => true,
+        Tree::Identity | Tree::Empty | Tree::Literal(_) | Tree::Variable(_) => true,
         _ => false,
     }
 }

@@ -9,4 +9,4 @@ mod copies;
 mod forms;
 
 pub use copies::{is_cheap, pays_for_copy};
-pub use forms::{goes_over_all, is_reading, is_simple, is_small, is_tried, is_update};
+pub use forms::{goes_over_all, is_simple, is_small, is_tried, is_update};

@@ -97,12 +97,9 @@ stops-then make s xs r q h p = subst (λ t. Ends s (make xs t)) (sym (then_run-a
 -- an error, whatever the values before it are
 pub made-fail : (inputs : Run Value) (level : ℕ) (later : Rest) (xs : List Val) (v : Value) → made inputs level later xs (fail v) ≡ fail v
 made-fail inputs level (rest.End most) xs v = refl
-made-fail inputs level (rest.Then' t p q later) xs v = made-fail inputs level later xs v
-made-fail inputs level (rest.Bind' n t p w q later) xs v = made-fail inputs level later xs v
-made-fail inputs level (rest.Field' key guarded q later) xs v = made-fail inputs level later xs v
-made-fail inputs level (rest.At' key guarded q later) xs v = made-fail inputs level later xs v
-made-fail inputs level (rest.Parts' guarded q later) xs v = made-fail inputs level later xs v
-made-fail inputs level (rest.Path' q later) xs v = made-fail inputs level later xs v
+made-fail inputs level (rest.Then' t s d q later) xs v = made-fail inputs level later xs v
+made-fail inputs level (rest.Bind' n t s d w q later) xs v = made-fail inputs level later xs v
+made-fail inputs level (rest.Step' s q later) xs v = made-fail inputs level later xs v
 made-fail inputs level (rest.Fold n t p) xs v = refl
 
 pub gathers_fail : (inputs : Run Value) (level : ℕ) (later : Rest) (xs : List Val) (v : Value) (r : Run Item) → r ≡ fail v → (q : Run Item) → made inputs level later xs (then_run r q) ≡ fail v

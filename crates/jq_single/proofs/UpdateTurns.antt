@@ -1,8 +1,8 @@
 -- What is claimed of updates, and of the first output of a run.
-use Rattle.std.proofs.Common.{◌≡◌, ◌∙◌, List, [], ◌∷◌, Result, Ok, Err, refl, ap, ℕ, suc, ◌++◌, map, sym, subst}
+use Rattle.std.proofs.Common.{◌≡◌, ◌∙◌, List, [], ◌∷◌, Result, Ok, Err, ap, ℕ, suc, ◌++◌, map, sym, subst}
 use Rattle.jv_data.specs.Value.{Value, array, items_of}
-use Rattle.jq_meaning.specs.Runs.{Item, Ending, Done, Run, then_run, plain, located, value_in, none, one, fail, answered, bind, paths_in}
-use Rattle.jq_single.specs.Single.{Changed, Ends}
+use Rattle.jq_meaning.specs.Runs.{Item, Ending, Done, Run, plain, located, none, one, fail, bind, paths_in}
+use Rattle.jq_single.specs.Single.{Changed}
 use Rattle.jq_single.specs.private.Parts.{ChangesTo, run}
 use Rattle.jq_single.specs.private.Updates.{first_alone}
 use Rattle.jq_single.specs.declared.stops.Stop.{Stop}
@@ -18,8 +18,7 @@ use Rattle.jq_ast.specs.Named.{named}
 use Rattle.jq_tree.specs.Tree.{Name, Tree, Trees, no_trees, more_trees, trees_of}
 use Rattle.jq_tree.specs.WrittenOut.{modify}
 use Rattle.std.proofs.Math.Logic.{∥∥₁_elim}
-use Rattle.jq_natives.specs.Answers.{Answer}
-use Rattle.jq_natives.specs.PathNatives.{getpath_native_of, setpath_native_of}
+use Rattle.jq_natives.specs.PathNatives.{getpath_native_of}
 use Rattle.jq_meaning.specs.Env.{Env, bound, closure, function, value_of, with_arguments}
 use Rattle.jv_data.specs.Text.{text_of}
 use Rattle.jq_single.specs.private.Scopes.{outside_in, scope_env}
@@ -29,11 +28,10 @@ use Rattle.jq_single.specs.declared.scopes.Scope.TheVariants as scope
 use Rattle.jq_meaning.specs.Meaning.{meaning}
 use Rattle.jq_meaning.specs.updates.Known.{HasModify}
 use Rattle.jq_meaning.specs.laws.Updates.{ModifyStays, UpdatesAreTurns}
-use Rattle.jq_meaning.specs.laws.Updating.{with_answer, on_outputs, turn_of, turns, updated, update_run}
-use Rattle.jq_meaning.proofs.shared.machine.RunLaws.{bind-one}
-use Rattle.jq_single.specs.private.Gathering.{Gathers, GoesOn, made}
+use Rattle.jq_meaning.specs.laws.Updating.{turns, updated, update_run}
+use Rattle.jq_single.specs.private.Gathering.{Gathers, made}
 use Rattle.jq_single.proofs.shared.RunSets.{run_set}
-use Rattle.jq_single.proofs.Binding.{bind-known, ends-bind, gathered_list, gathered_same}
+use Rattle.jq_single.proofs.Binding.{gathered_list, gathered_same}
 use Rattle.jq_single.specs.declared.rests.Rest.TheVariants as rest
 use Rattle.jq_single.specs.declared.stops.Stop.TheVariants as stop
 use Rattle.jv_data.specs.declared.values.Val as val
@@ -45,14 +43,6 @@ changed-first (Err stop.Nothing) w r h = ap first_alone h
 changed-first (Err (stop.Raised e)) w r h = ap first_alone h
 changed-first (Err stop.NoMemory) w r h = tt
 changed-first (Err stop.Unknown) w r h = tt
-
--- the first output of two runs depends on that of the first run
-first-same : (xs : List Item) (f : Ending) (s : Run Item) → first_alone (then_run (record { items = xs; ending = f }) s) ≡ first_alone (then_run (first_alone (record { items = xs; ending = f })) s)
-first-same [] f s = refl
-first-same (x ∷ xs) f s = refl
-
-pub first-then : (r s q : Run Item) → first_alone r ≡ q → first_alone (then_run r s) ≡ first_alone (then_run q s)
-first-then r s q h = first-same r.items r.ending s ∙ ap (λ (z : Run Item). first_alone (then_run z s)) h
 
 -- ---- the call of `_modify`
 
@@ -81,37 +71,7 @@ modify_outside stays inputs (scope.Call' p own ps ts q caller) h =
 pub getpath_keys : (v : Value) (path : Val) (a : Array Val) (ks : List Val) → path ≡ val.List a → ks ≡ items_in a → getpath_native_of v (view path) ≡ getpath_of v (map view ks)
 getpath_keys v path a ks e f = ap (getpath_native_of v) (ap view e ∙ view-List a) ∙ ap (getpath_of v) (values_of-items_of (map view (items_in a)) ∙ ap (map view) (sym f))
 
--- ---- a turn
-
--- what is done with the value of a known answer
-with_answer-bind : (b : Answer) (go : Value → Run Item) → with_answer b go ≡ bind (answered plain b) (λ x. go (value_in x))
-with_answer-bind (Ok v) go = sym (bind-one (plain v) (λ (x : Item). go (value_in x)))
-with_answer-bind (Err e) go = refl
-
-answer_goes : {A : Type 0} (a : Result A Stop) (w : Value) (b : Answer) (go : Value → Run Item) → Changed a w (answered plain b) → GoesOn a (go w) (with_answer b go)
-answer_goes (Ok d) w b go h = with_answer-bind b go ∙ bind-known (answered plain b) (plain w) (λ x. go (value_in x)) h
-answer_goes (Err s) w b go h = subst (Ends s) (sym (with_answer-bind b go)) (ends-bind s (answered plain b) (λ x. go (value_in x)) h)
-
-module _ (k : ℕ) (x ds p : Value) (go : Value → Value → Run Item) where
-  -- only the first output counts
-  first_counts : (ys : List Item) (f : Ending) → on_outputs k x ds p (record { items = ys; ending = f }) go ≡ on_outputs k x ds p (first_alone (record { items = ys; ending = f })) go
-  first_counts [] f = refl
-  first_counts (y ∷ ys) f = refl
-
-  module _ (g : Value → Run Item) (part : Value) (got : getpath_native_of x p ≡ Ok part) where
-    turned : (q : Run Item) → first_alone (g part) ≡ q → turn_of k g p x ds go ≡ on_outputs k x ds p q go
-    turned q h =
-        ap (λ a. with_answer a (λ z. on_outputs k x ds p (g z) go)) got ∙ first_counts (g part).items (g part).ending ∙ ap (λ (r : Run Item). on_outputs k x ds p r go) h
-
-    pub turn_sets : {A : Type 0} (a : Result A Stop) (w later : Value) → first_alone (g part) ≡ one (plain w) → Changed a later (answered plain (setpath_native_of x p w))
-        → GoesOn a (go later ds) (turn_of k g p x ds go)
-    turn_sets a w later h i = subst (GoesOn a (go later ds)) (sym (turned (one (plain w)) h)) (answer_goes a later (setpath_native_of x p w) (λ y. go y ds) i)
-
-    pub turn_lists : (es : Value) → first_alone (g part) ≡ none → add_of ds (array (items_of (p ∷ []))) ≡ Ok es → turn_of k g p x ds go ≡ go x es
-    turn_lists es h i = turned none h ∙ ap (λ a. with_answer a (go x)) i
-
-    pub turn_raises : (e : Value) → first_alone (g part) ≡ fail e → turn_of k g p x ds go ≡ fail e
-    turn_raises e h = turned (fail e) h
+-- ---- the list of the paths to delete
 
 -- a path is added to the list
 pub listed_more : (ds es : List Value) (p : Value) → es ≡ ds ++ p ∷ [] → add_of (array (items_of ds)) (array (items_of (p ∷ []))) ≡ Ok (array (items_of es))

@@ -69,7 +69,7 @@ impl<'s> Context<'s> {
                 }
                 Scope::Call(own, parameters, bound, caller) => {
                     if arguments.is_empty() {
-                        if let Some(argument) = argument_of(parameters, bound, name) {
+                        if let Some(argument) = argument_of(parameters, bound, name, None) {
                             return Called::Body(argument, &[], **caller, arguments);
                         }
                     }
@@ -191,24 +191,26 @@ fn body_of<'s>(function: &'s Function<Tree>, own: Scope<'s>, arguments: &'s [Tre
     )
 }
 
-// The argument for the last parameter with this name.
-fn argument_of<'s>(parameters: &[String], arguments: &'s [Tree], name: &Name) -> Option<&'s Tree>
-    ensures { FindsBound (name_of name.now) parameters.now arguments.now None result }
+// The argument for the last parameter with this name, or what was found before.
+fn argument_of<'s>(
+    parameters: &[String],
+    arguments: &'s [Tree],
+    name: &Name,
+    found: Option<&'s Tree>,
+) -> Option<&'s Tree>
+    ensures { FindsBound (name_of name.now) parameters.now arguments.now found.entry result }
 {
-    let mut found = None;
-    let mut names = parameters;
-    let mut bound = arguments;
-    'names: while let [parameter, later @ ..] = names {
-        let [argument, others @ ..] = bound else {
-            return found;
-        };
-        if is_text(name, parameter) {
-            found = Some(argument);
-        }
-        names = later;
-        bound = others;
+    let [parameter, later @ ..] = parameters else {
+        return found;
+    };
+    let [argument, others @ ..] = arguments else {
+        return found;
+    };
+    if is_text(name, parameter) {
+        argument_of(later, others, name, Some(argument))
+    } else {
+        argument_of(later, others, name, found)
     }
-    found
 }
 
 // The environment of the run in which a scope's bindings are.

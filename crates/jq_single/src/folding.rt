@@ -1,12 +1,15 @@
 // Folds (`reduce`), whose state each step changes in place.
-ghost use Rattle.std.specs.Prelude.{◌≡◌, IfSome, OnOk};
+ghost use Rattle.std.specs.Prelude.{◌≡◌, IfSome, IsTrue, Ok, OnOk};
 ghost use Rattle.jv_data.specs.Text.{text_of};
 ghost use Rattle.jv_data.specs.View.{view};
 ghost use Rattle.jq_ast.specs.Named.{named, named_as_pattern};
 ghost use Rattle.jq_tree.specs.Tree as form;
-ghost use Rattle.jq_meaning.specs.Runs.{plain};
-ghost use Rattle.jq_single.specs.Single.{Keeps};
-ghost use Rattle.jq_single.specs.private.Gathering.{FoldsAs, GathersTurn, Turns, state_in};
+ghost use Rattle.jq_meaning.specs.Runs.{Run, plain};
+ghost use Rattle.jq_meaning.specs.Runs as runs;
+ghost use Rattle.jq_meaning.specs.Folds.{next_state};
+ghost use Rattle.jv_data.specs.Value.{Value};
+ghost use Rattle.jq_single.specs.Single.{Changed, Keeps};
+ghost use Rattle.jq_single.specs.private.Gathering.{FoldsAs, GathersTurn, GoesOn, Turns, state_in};
 ghost use Rattle.jq_single.specs.private.Parts.{ChangesTo};
 
 use crate::contexts::Context;
@@ -24,8 +27,8 @@ const MOST: usize = 65_536;
 impl<'s> Context<'s> {
     /// `reduce f as $x (g; h)`, whose result replaces the input. A pattern other than one variable is not matched at once.
     ///
-    /// If the input is the first state, with one output of the source it is changed in place. With more a copy of it is, since a
-    /// later step may be one that is not run at once; the machine runs the filter if the input is large and the outputs are few.
+    /// If the input is the first state, and is dear to copy, with one output of the source it is changed in place. With more a copy
+    /// of it is, since a later step may be one that is not run at once; the machine runs the filter if the outputs are few.
     /// A source that is run only to find this out has half of the fuel, so that folds in the sources of folds are not run more
     /// often at each level.
     #[cycle(single)]
@@ -47,25 +50,21 @@ impl<'s> Context<'s> {
         let Tree::Identity = start else {
             return self.change_from(source, name, start, update, value);
         };
-        let cheap = is_cheap(value);
-        let most = if cheap { 2 } else { MOST };
+        if is_cheap(value) {
+            return self.change_from(source, name, start, update, value);
+        }
         let mut values = Vec::new(self.alloc);
         let tried = Context {
             fuel: self.fuel / 2,
             ..*self
         };
-        match tried.collect(source, value, most, &mut values) {
-            Ok(()) => match values.as_slice() {
-                [single] if !self.kept => self.step(name, update, single, value),
-                several if cheap || pays_for_copy(value, several) => {
-                    self.change_from(source, name, start, update, value)
-                }
-                _ => Err(Stop::Unknown),
-            },
-            Err(_stop) if cheap || values.len() >= most => {
+        let are_all = is_done(tried.collect(source, value, MOST, &mut values));
+        match values.as_slice() {
+            [single] if are_all && !self.kept => self.step(name, update, single, value),
+            several if several.len() >= MOST || are_all && pays_for_copy(value, several) => {
                 self.change_from(source, name, start, update, value)
             }
-            Err(_stop) => Err(Stop::Unknown),
+            _ => Err(Stop::Unknown),
         }
     }
 
@@ -142,16 +141,30 @@ impl<'s> Context<'s> {
             scope: &scope,
             ..*self
         };
-        match inside.change(&*update, state) {
-            Ok(()) => Ok(()),
-            Err(Stop::Nothing) => {
-                *state = Val::Null;
-                Ok(())
-            }
-            Err(Stop::Raised(error)) => Err(Stop::Raised(error)),
-            Err(Stop::NoMemory) => Err(Stop::NoMemory),
-            Err(Stop::Unknown) => Err(Stop::Unknown),
+        let done = inside.change(&*update, state);
+        settled(done, state)
+    }
+}
+
+// Whether all outputs were made.
+fn is_done(made: Result<(), Stop>) -> bool
+    ensures { IsTrue result → made ≡ Ok (tt {0}) }
+{
+    made.is_ok()
+}
+
+// The next state. It is null if the update has no output.
+#[inline(always)]
+fn settled(done: Result<(), Stop>, state: &mut Val) -> Result<(), Stop>
+    ensures runs { (v : Value) (r : Run runs.Item) (go : runs.Item → Run runs.Item) → Changed done (view state.old) r → GoesOn result (go (plain (view state.new))) (next_state (plain v) r go) }
+    ensures keeps { (v : Value) → Keeps done v (view state.old) → Keeps result v (view state.new) }
+{
+    match done {
+        Err(Stop::Nothing) => {
+            *state = Val::Null;
+            Ok(())
         }
+        done => done,
     }
 }
 

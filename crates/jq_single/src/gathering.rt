@@ -5,13 +5,12 @@ ghost use Rattle.jq_tree.specs.Tree.{trees_of};
 ghost use Rattle.jq_operations.specs.Language.{meaning_of};
 ghost use Rattle.jq_state.specs.Items.{item_of};
 ghost use Rattle.jq_operations.specs.Entering.{defined};
-ghost use Rattle.jq_single.specs.private.Gathering.{GathersAll, GathersBuiltin, GathersOf, GathersPaths, Gathers, GathersRun, made, numbers_from, supplied};
+ghost use Rattle.jq_single.specs.private.Gathering.{GathersAll, GathersBound, GathersBuiltin, GathersOf, GathersPaths, Gathers, GathersRun, GathersStep, made, numbers_from, step_run, supplied};
+ghost use Rattle.jv_data.specs.Text.{text_of};
 ghost use Rattle.jv_data.specs.Value.{Value};
 ghost use Rattle.jv_data.specs.View.{view};
-ghost use Rattle.jq_meaning.specs.machine.Operations.{result_of};
-ghost use Rattle.jq_state.specs.Steps.{operation_of};
 ghost use Rattle.jq_meaning.specs.Runs.{Run, before, none, one, value_in, plain};
-ghost use Rattle.jq_single.specs.Single.{Ends};
+ghost use Rattle.jq_single.specs.Single.{Comes, Ends};
 ghost use Rattle.jq_tree.specs.Tree as form;
 ghost use Rattle.jq_meaning.specs.Runs as runs;
 ghost use Rattle.jq_meaning.specs.Builtins as meaning;
@@ -19,20 +18,22 @@ ghost use Rattle.jq_meaning.specs.Builtins as meaning;
 use crate::changing::scope_of_call;
 use crate::contexts::Context;
 use crate::finding::Called;
-use crate::rests::Rest;
+use crate::rests::{Rest, Step};
 use crate::scopes::Scope;
 use crate::stops::Stop;
-use jq_ast::{Function, Key, Pattern, Tree};
+use jq_ast::{Function, Pattern, Tree};
 use jq_natives::truth;
 use jq_operations::{Builtin, Outputs, run};
 use jq_state::items::Item;
 use jq_state::numbers::{is_before, number_after};
 use jq_state::steps::Operation;
 use jv_data::{NoMemory, Val};
+use std::alloc::Global;
 
-/// Items that are given one by one: those of a vector, the last one first, or whole numbers.
+/// Items that are given one by one: one item or none, those of a vector, the last one first, or whole numbers.
 #[derive(Drop)]
 pub(crate) enum Supply {
+    One(Option<Item>),
     Items(Vec<Item>),
     Numbers(Numbers),
 }
@@ -66,12 +67,10 @@ impl<'s> Context<'s> {
         match tree {
             Tree::Identity => inside.give(item.copy()?, rest, into),
             Tree::Iterate(target, guarded) => {
-                let next = Rest::Parts(*guarded, &*rest);
-                (&inside).gather(&**target, item, &next, into)
+                inside.gather_step(target, &Step::Parts(*guarded), item, rest, into)
             }
             Tree::Field(target, key, guarded) if item.path.is_present() => {
-                let next = Rest::Field(&*key, *guarded, &*rest);
-                (&inside).gather(&**target, item, &next, into)
+                inside.gather_step(target, &Step::At(key.value(), *guarded), item, rest, into)
             }
             Tree::Index(target, key, guarded) if item.path.is_present() => {
                 inside.gather_index(target, key, *guarded, item, rest, into)
@@ -151,12 +150,7 @@ impl<'s> Context<'s> {
     {
         let called = self.called(second);
         let (filter, scope, depth) = (&*self).entered(&*second, &called);
-        let inside = Context {
-            scope: &scope,
-            depth,
-            ..*self
-        };
-        let next = Rest::Then(filter, &inside, &*rest);
+        let next = Rest::Then(filter, &scope, depth, &*rest);
         (&*self).gather(&*first, item, &next, into)
     }
 
@@ -220,7 +214,7 @@ impl<'s> Context<'s> {
         match pattern {
             Pattern::Whole(name) => {
                 let input = Item::plain(item.value.copy()?);
-                let next = Rest::Bind(&*name, &*body, &*self, &*item, &*rest);
+                let next = Rest::Bind(&*name, &*body, &*self.scope, self.depth, &*item, &*rest);
                 (&*self).gather(&*source, &input, &next, into)
             }
             _ => Err(Stop::Unknown),
@@ -331,54 +325,53 @@ impl<'s> Context<'s> {
                 }
                 Ok(add(into, item)?)
             }
-            Rest::Then(tree, context, later) => {
+            Rest::Then(tree, scope, depth, later) => {
                 let inside = Context {
                     alloc: self.alloc,
-                    scope: context.scope,
-                    depth: context.depth,
+                    scope: *scope,
+                    depth: *depth,
                     fuel: self.fuel,
                     kept: true,
                 };
                 inside.gather(*tree, &item, *later, into)
             }
-            Rest::Fold(name, update, context) => {
-                self.turn(*name, *update, *context, &item.value, into)
-            }
-            _ => self.give_on(item, rest, into),
-        }
-    }
-
-    // The same where the rest binds the output or takes a step.
-    #[cycle(single)]
-    #[inline(never)]
-    fn give_on<'r>(&self, item: Item, rest: &Rest<'r>, into: &mut Vec<Val>) -> Result<(), Stop>
-        ensures { GathersRun (one (item_of item)) rest.now result into.old.items into.new.items }
-    {
-        match rest {
-            Rest::Bind(name, body, context, input, later) => {
-                let scope = Scope::Value(&*context.scope, &**name, &item.value);
+            Rest::Bind(name, body, scope, depth, input, later) => {
                 let inside = Context {
                     alloc: self.alloc,
-                    scope: &scope,
-                    depth: context.depth,
+                    scope: *scope,
+                    depth: *depth,
                     fuel: self.fuel,
                     kept: true,
                 };
-                inside.gather(&**body, *input, &**later, into)
+                inside.give_bound(*name, *body, &item.value, *input, *later, into)
             }
-            Rest::Field(key, guarded, later) => {
-                self.give_step(Operation::Field(*key, *guarded), item, *later, into)
+            Rest::Step(step, later) => self.give_step(*step, item, *later, into),
+            Rest::Fold(name, update, context) => {
+                self.turn(*name, *update, *context, &item.value, into)
             }
-            Rest::At(key, guarded, later) => {
-                let key = key.copy()?;
-                self.give_step(Operation::PartAtKey(*guarded, key), item, *later, into)
-            }
-            Rest::Parts(guarded, later) => {
-                self.give_step(Operation::EveryPart(*guarded), item, *later, into)
-            }
-            Rest::Path(later) => self.give_step(Operation::PathValue, item, *later, into),
-            _ => Err(Stop::Unknown),
         }
+    }
+
+    // Binds a value to a variable, and runs the body and the rest on an input.
+    #[cycle(single)]
+    #[inline(never)]
+    fn give_bound<'r>(
+        &self,
+        name: &'s String,
+        body: &'s Tree,
+        value: &Val,
+        input: &Item,
+        later: &Rest<'r>,
+        into: &mut Vec<Val>,
+    ) -> Result<(), Stop>
+        ensures { GathersBound self.now (text_of name.now) (named body.now) (view value.now) (item_of input.now) later.now result into.old.items into.new.items }
+    {
+        let scope = Scope::Value(&*self.scope, &*name, &*value);
+        let inside = Context {
+            scope: &scope,
+            ..*self
+        };
+        inside.gather(&*body, input, &*later, into)
     }
 
     // Takes a step, and runs the rest on where it leads to.
@@ -386,12 +379,12 @@ impl<'s> Context<'s> {
     #[inline(never)]
     fn give_step<'r>(
         &self,
-        operation: Operation<'_>,
+        step: &Step<'r>,
         item: Item,
         later: &Rest<'r>,
         into: &mut Vec<Val>,
     ) -> Result<(), Stop>
-        ensures { GathersRun (result_of (operation_of operation.entry) (item_of item)) later.now result into.old.items into.new.items }
+        ensures { GathersRun (step_run step.now (item_of item)) later.now result into.old.items into.new.items }
     {
         if self.fuel == 0 {
             return Err(Stop::Unknown);
@@ -400,13 +393,9 @@ impl<'s> Context<'s> {
             fuel: self.fuel - 1,
             ..*self
         };
-        match run(self.alloc, operation, item)? {
-            Outputs::Nothing => Ok(()),
-            Outputs::One(item) => inside.give(item, later, into),
-            Outputs::Several(items) => inside.give_all(Supply::Items(items), later, into),
-            Outputs::Error(error) => Err(Stop::Raised(error)),
-            // A step neither makes numbers of a range nor halts.
-            Outputs::Numbers(_, _, _) | Outputs::Stopped(_) => Err(Stop::Unknown),
+        match led_to(self.alloc, step, item) {
+            Ok(supply) => inside.give_all(supply, later, into),
+            Err(stop) => ended(stop),
         }
     }
 
@@ -441,12 +430,26 @@ impl<'s> Context<'s> {
         ensures { GathersOf self.now (form.index (named target.now) (named key.now) guarded) (item_of item.now) rest.now result into.old.items into.new.items }
     {
         match self.get(key, &item.value) {
-            Ok(found) => {
-                let next = Rest::At(&found, guarded, &*rest);
-                (&*self).gather(&*target, item, &next, into)
-            }
+            Ok(found) => { self.gather_step(target, &Step::At(&found, guarded), item, rest, into) }
             Err(stop) => ended(stop),
         }
+    }
+
+    // The rest on where a step from each output leads to.
+    #[cycle(single)]
+    #[inline(never)]
+    fn gather_step<'r>(
+        &self,
+        tree: &'s Tree,
+        step: &Step<'_>,
+        item: &Item,
+        rest: &Rest<'r>,
+        into: &mut Vec<Val>,
+    ) -> Result<(), Stop>
+        ensures { GathersStep self.now (named tree.now) (item_of item.now) step.now rest.now result into.old.items into.new.items }
+    {
+        let next = Rest::Step(&*step, &*rest);
+        (&*self).gather(&*tree, item, &next, into)
     }
 
     /// `path(f)`.
@@ -462,8 +465,7 @@ impl<'s> Context<'s> {
         ensures { GathersPaths self.now (named tree.now) (view value.now) rest.now result into.old.items into.new.items }
     {
         let start = Item::start(value.copy()?);
-        let next = Rest::Path(&*rest);
-        (&*self).gather(&*tree, &start, &next, into)
+        self.gather_step(tree, &Step::Path, &start, rest, into)
     }
 
     // `range(f; g)`, where f and g have at most one output.
@@ -510,6 +512,25 @@ fn supply_of(start: &Val, end: &Val) -> Option<Supply>
     }
 }
 
+// Where a step leads to.
+fn led_to(alloc: Global, step: &Step<'_>, item: Item) -> Result<Supply, Stop>
+    ensures { Comes supplied result (step_run step.now (item_of item)) }
+{
+    let operation = match step {
+        Step::At(key, guarded) => Operation::PartAtKey(*guarded, key.copy()?),
+        Step::Parts(guarded) => Operation::EveryPart(*guarded),
+        Step::Path => Operation::PathValue,
+    };
+    match run(alloc, operation, item)? {
+        Outputs::Nothing => Ok(Supply::One(None)),
+        Outputs::One(item) => Ok(Supply::One(Some(item))),
+        Outputs::Several(items) => Ok(Supply::Items(items)),
+        Outputs::Error(error) => Err(Stop::Raised(error)),
+        // A step neither makes numbers of a range nor halts.
+        Outputs::Numbers(_, _, _) | Outputs::Stopped(_) => Err(Stop::Unknown),
+    }
+}
+
 // Adds the value of an item to a list.
 #[tactic(auto, using(crate::proofs::Binding::added))]
 fn add(into: &mut Vec<Val>, item: Item) -> Result<(), NoMemory>
@@ -538,6 +559,7 @@ fn take_item(supply: &mut Supply) -> Option<Item>
     ensures { MatchOption result (supplied supply.old ≡ none) (λ x. supplied supply.old ≡ before (item_of x ∷ []) (supplied supply.new)) }
 {
     match supply {
+        Supply::One(item) => item.take(),
         Supply::Items(items) => Some(items.pop()?),
         Supply::Numbers(numbers) => Some(Item::plain(take_number(numbers)?)),
     }

@@ -1,16 +1,15 @@
 // The output of a filter on a value that is kept: forms that make a value from those of their parts, and copies that others change.
-ghost use Rattle.std.specs.Prelude.{◌≡◌, ◌∷◌, ℕ, List, [], IfOk};
-ghost use Rattle.jv_data.specs.Value.{array, items_of};
+ghost use Rattle.std.specs.Prelude.{◌≡◌, ◌∷◌, [], IfOk, IfSome, Ok};
+ghost use Rattle.std.specs.Str.{chars};
+ghost use Rattle.jv_data.specs.Value.{Value, array, items_of};
 ghost use Rattle.jv_data.specs.View.{view};
 ghost use Rattle.jq_ast.specs.Leaves.{operator_of};
 ghost use Rattle.jq_ast.specs.Named.{named, name_of, named_entry};
-ghost use Rattle.jq_single.specs.private.Parts.{RunsTo, Answers, Follows};
+ghost use Rattle.jq_single.specs.private.Parts.{RunsTo, Answers, Catches, Follows, found_or};
 ghost use Rattle.jq_meaning.specs.Continuations.{on_target, format_of, put_between, text_item};
-ghost use Rattle.jq_meaning.specs.Runs.{plain, bind};
+ghost use Rattle.jq_meaning.specs.Runs.{Item, Run, alternative, bind, catch, one, plain};
+ghost use Rattle.jq_single.specs.Single.{Comes};
 ghost use Rattle.jv_data.specs.Shared.{text_in};
-ghost use Rattle.jv_data.specs.Text.{text_of};
-ghost use Rattle.jv_text.specs.Formats.{Text};
-ghost use Rattle.jq_operations.specs.Outputs.{Inserts};
 ghost use Rattle.jq_operations.specs.Pieces.{named_pieces};
 ghost use Rattle.jq_single.specs.private.Making.{AddsEntry, AddsMember, RunsPieces, TextAnswers};
 ghost use Rattle.jv_data.specs.Held.{members_in};
@@ -60,11 +59,9 @@ impl<'s> Context<'s> {
     pub(crate) fn get_part(&self, tree: &'s Tree, value: &Val) -> Result<Val, Stop>
         ensures { RunsTo self.now (named tree.now) (view value.now) result }
     {
-        match tree {
-            Tree::Identity => Ok(value.copy()?),
-            Tree::Literal(constant) => Ok(literal(constant)?),
-            Tree::Variable(name) => Ok(value_of(self.scope, name)?),
-            _ => self.get(tree, value),
+        match self.at_hand(tree, value)? {
+            Some(found) => Ok(found),
+            None => self.get(tree, value),
         }
     }
 
@@ -75,15 +72,13 @@ impl<'s> Context<'s> {
         ensures { RunsTo self.now (named tree.now) (view value.now) result }
     {
         match tree {
-            Tree::Identity => Ok(value.copy()?),
+            Tree::Identity | Tree::Literal(_) | Tree::Variable(_) => self.get_part(tree, value),
             Tree::Empty => Err(Stop::Nothing),
-            Tree::Literal(constant) => Ok(literal(constant)?),
             Tree::Text(format, pieces, last) => {
                 let text = self.pieces(format, pieces.as_slice(), last, value)?;
                 Ok(Val::Text(text))
             }
             Tree::Format(format) => get_format(self.alloc, format, value),
-            Tree::Variable(name) => Ok(value_of(self.scope, name)?),
             Tree::Field(target, key, guarded) => self.field(target, key.value(), *guarded, value),
             Tree::Index(target, key, guarded) => self.index(target, key, *guarded, value),
             Tree::Slice(target, from, to, guarded) => self.slice(target, from, to, *guarded, value),
@@ -211,13 +206,8 @@ impl<'s> Context<'s> {
     fn array(&self, filter: &'s Tree, value: &Val) -> Result<Val, Stop>
         ensures { RunsTo self.now (form.array (named filter.now)) (view value.now) result }
     {
-        if matches!(
-            filter,
-            Tree::Identity | Tree::Literal(_) | Tree::Variable(_)
-        ) {
-            if let Ok(item) = self.get_part(filter, value) {
-                return Ok(array_of_one(self.alloc, item)?);
-            }
+        if let Some(item) = self.at_hand(filter, value)? {
+            return Ok(array_of_one(self.alloc, item)?);
         }
         let mut items = Vec::new(self.alloc);
         self.collect(filter, value, usize::MAX, &mut items)?;
@@ -260,18 +250,9 @@ impl<'s> Context<'s> {
     fn alternative(&self, left: &'s Tree, right: &'s Tree, value: &Val) -> Result<Val, Stop>
         ensures { RunsTo self.now (form.alternative (named left.now) (named right.now)) (view value.now) result }
     {
-        match self.get(left, value) {
-            Ok(found) => {
-                if truth(&found) {
-                    Ok(found)
-                } else {
-                    self.get(right, value)
-                }
-            }
-            Err(Stop::Nothing) => self.get(right, value),
-            Err(Stop::Raised(_error)) => self.get(right, value),
-            Err(Stop::NoMemory) => Err(Stop::NoMemory),
-            Err(Stop::Unknown) => Err(Stop::Unknown),
+        match counted(self.get(left, value))? {
+            Some(found) => Ok(found),
+            None => self.get(right, value),
         }
     }
 
@@ -281,12 +262,9 @@ impl<'s> Context<'s> {
     fn try_catch(&self, body: &'s Tree, handler: &'s Tree, value: &Val) -> Result<Val, Stop>
         ensures { RunsTo self.now (form.try_catch (named body.now) (named handler.now)) (view value.now) result }
     {
-        match self.get(body, value) {
-            Ok(found) => Ok(found),
-            Err(Stop::Raised(error)) => self.get(handler, &error),
-            Err(Stop::Nothing) => Err(Stop::Nothing),
-            Err(Stop::NoMemory) => Err(Stop::NoMemory),
-            Err(Stop::Unknown) => Err(Stop::Unknown),
+        match uncaught(self.get(body, value)) {
+            Ok(answer) => answer,
+            Err(error) => self.get(handler, &error),
         }
     }
 
@@ -316,8 +294,13 @@ impl<'s> Context<'s> {
                 };
                 let back = inside.pieces(format, later, last, value)?;
                 let found = self.get(&piece.tree, value)?;
-                let front = piece.before.as_str();
-                inserted(text_in_format(self.alloc, format, front, &found, back.as_str())?)
+                text_between(
+                    self.alloc,
+                    format,
+                    piece.before.as_str(),
+                    &found,
+                    back.as_str(),
+                )
             }
         }
     }
@@ -362,6 +345,19 @@ impl<'s> Context<'s> {
         }
     }
 
+    // The output of a filter that is the input, a constant or a variable.
+    #[inline(always)]
+    fn at_hand(&self, tree: &Tree, value: &Val) -> Result<Option<Val>, NoMemory>
+        ensures { IfOk result (λ o. IfSome o (λ v. RunsTo self.now (named tree.now) (view value.now) (Ok v))) }
+    {
+        match tree {
+            Tree::Identity => Ok(Some(value.copy()?)),
+            Tree::Literal(constant) => Ok(Some(literal(constant)?)),
+            Tree::Variable(name) => Ok(Some(value_of(self.scope, name)?)),
+            _ => Ok(None),
+        }
+    }
+
     // An entry whose key is known.
     #[cycle(single)]
     #[inline(never)]
@@ -385,6 +381,29 @@ fn array_of_one(alloc: Global, item: Val) -> Result<Val, NoMemory>
     Ok(Val::List(Array::from_vec(alloc, vec![in alloc; item]?)?))
 }
 
+// The output of the left side of `f // g`, if it counts: it is neither false nor null. An error ends the left side.
+#[inline(always)]
+fn counted(left: Result<Val, Stop>) -> Result<Option<Val>, Stop>
+    ensures { (r : Run Item) (g : Item → Run Item) (x : Item) → Answers left r → Comes (λ o. found_or o (g x)) result (alternative r g x) }
+{
+    match left {
+        Ok(found) if truth(&found) => Ok(Some(found)),
+        Ok(_) | Err(Stop::Nothing) | Err(Stop::Raised(_)) => Ok(None),
+        Err(stop) => Err(stop),
+    }
+}
+
+// The answer of `f` in `try f catch g`, or the error that `g` is run on.
+#[inline(always)]
+fn uncaught(answer: Result<Val, Stop>) -> Result<Result<Val, Stop>, Val>
+    ensures { (r : Run Item) (handler : Value → Run Item) → Answers answer r → Catches result handler (catch r handler) }
+{
+    match answer {
+        Err(Stop::Raised(error)) => Err(error),
+        answer => Ok(answer),
+    }
+}
+
 // The part of a value at a key.
 #[tactic(auto, unfolding(jq_meaning::specs::Continuations::on_target))]
 fn part_at(alloc: Global, guarded: bool, target: &Val, key: &Val) -> Result<Val, Stop>
@@ -397,11 +416,17 @@ fn part_at(alloc: Global, guarded: bool, target: &Val, key: &Val) -> Result<Val,
     }
 }
 
-// A text between two others, or its error.
-fn inserted(text: Inserted) -> Result<SharedText, Stop>
-    ensures { (front back : List ℕ) (expected : Text) → Inserts front expected back text → TextAnswers result (put_between front back expected) }
+// The text of a value in a format between two others, or the error of the format.
+fn text_between(
+    alloc: Global,
+    format: &Name,
+    front: &str,
+    value: &Val,
+    back: &str,
+) -> Result<SharedText, Stop>
+    ensures { TextAnswers result (put_between (chars front.now) (chars back.now) (format_of (name_of format.now) (view value.now))) }
 {
-    match text {
+    match text_in_format(alloc, format, front, value, back)? {
         Inserted::Text(text) => Ok(text),
         Inserted::Error(error) => Err(Stop::Raised(error)),
     }
@@ -411,6 +436,6 @@ fn inserted(text: Inserted) -> Result<SharedText, Stop>
 fn get_format(alloc: Global, format: &Name, value: &Val) -> Result<Val, Stop>
     ensures { Answers result (bind (put_between [] [] (format_of (name_of format.now) (view value.now))) text_item) }
 {
-    let text = inserted(text_in_format(alloc, format, "", value, "")?)?;
+    let text = text_between(alloc, format, "", value, "")?;
     Ok(Val::Text(text))
 }

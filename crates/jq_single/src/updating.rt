@@ -1,14 +1,15 @@
 // Updates (`f |= g`): the paths of f are gathered once, and each part becomes the first output of g, the only one that counts.
-ghost use Rattle.std.specs.Prelude.{◌≡◌, ◌++◌, ◌∷◌, [], IfSome, OnOk, length, map};
+ghost use Rattle.std.specs.Prelude.{◌≡◌, ◌++◌, ◌∷◌, [], IfSome, OnOk, if◌then◌else◌, length, map};
 ghost use Rattle.jv_data.specs.Value.{Value};
 ghost use Rattle.jv_data.specs.View.{view};
 ghost use Rattle.jq_natives.specs.declared.native.Native.TheVariants.{DelPaths, SetPath};
 ghost use Rattle.jq_ast.specs.Named.{named};
 ghost use Rattle.jq_tree.specs.WrittenOut.{modify};
 ghost use Rattle.jq_meaning.specs.Builtins.{plain_native};
-ghost use Rattle.jq_single.specs.Single.{Changed, Keeps};
+ghost use Rattle.jq_single.specs.Single.{Changed, Comes, Keeps};
+ghost use Rattle.jq_meaning.specs.Runs.{Item, Run, one, plain, then_run};
 ghost use Rattle.jq_single.specs.private.Parts.{ChangesTo};
-ghost use Rattle.jq_single.specs.private.Updates.{ChangesToFirst, TakesTurn, TakesTurns, listed};
+ghost use Rattle.jq_single.specs.private.Updates.{ChangesToFirst, TakesPart, TakesTurn, TakesTurns, first_alone, listed};
 ghost use Rattle.jq_tree.specs.Tree as form;
 
 use crate::changing::call_on;
@@ -97,13 +98,8 @@ impl<'s> Context<'s> {
         let Ok(mut part) = getpath(self.alloc, value, keys.as_slice()) else {
             return Err(Stop::Unknown);
         };
-        match self.change_first(update, &mut part) {
-            Ok(()) => put_at(self.alloc, value, path, part),
-            Err(Stop::Nothing) => Ok(add_copy(without, path)?),
-            Err(Stop::Raised(error)) => Err(Stop::Raised(error)),
-            Err(Stop::NoMemory) => Err(Stop::NoMemory),
-            Err(Stop::Unknown) => Err(Stop::Unknown),
-        }
+        let done = self.change_first(update, &mut part);
+        placed(self.alloc, done, part, path, value, without)
     }
 
     // Replaces the value by the first output of a filter.
@@ -140,16 +136,23 @@ impl<'s> Context<'s> {
             ..*self
         };
         let mut output = value.copy()?;
-        match inside.change_first(left, &mut output) {
-            Ok(()) => {
-                *value = output;
-                Ok(())
-            }
-            Err(Stop::Nothing) => inside.change_first(right, value),
-            Err(Stop::Raised(error)) => Err(Stop::Raised(error)),
-            Err(Stop::NoMemory) => Err(Stop::NoMemory),
-            Err(Stop::Unknown) => Err(Stop::Unknown),
+        if has_output(inside.change_first(left, &mut output))? {
+            *value = output;
+            Ok(())
+        } else {
+            inside.change_first(right, value)
         }
+    }
+}
+
+// Whether the left side of `f, g` has an output.
+fn has_output(done: Result<(), Stop>) -> Result<bool, Stop>
+    ensures { (w : Value) (left right : Run Item) → Changed done w (first_alone left) → Comes (λ b. if b then one (plain w) else first_alone right) result (first_alone (then_run left right)) }
+{
+    match done {
+        Ok(()) => Ok(true),
+        Err(Stop::Nothing) => Ok(false),
+        Err(stop) => Err(stop),
     }
 }
 
@@ -163,6 +166,26 @@ pub fn filters_of_update(tree: &Tree) -> Option<(&Tree, &Tree)>
             Some((paths, update))
         }
         _ => None,
+    }
+}
+
+// Puts a part that was changed back at its path. Without output the path is listed.
+#[tactic(auto, using(crate::proofs::UpdateTurns::listed_more))]
+fn placed(
+    alloc: Global,
+    done: Result<(), Stop>,
+    part: Val,
+    path: &Val,
+    value: &mut Val,
+    without: &mut Vec<Val>,
+) -> Result<(), Stop>
+    ensures turn { TakesPart done (view part) (view path.now) (view value.old) (listed without.old.items) (view value.new) (listed without.new.items) result }
+    ensures keeps { Keeps result (view value.old) (view value.new) }
+{
+    match done {
+        Ok(()) => put_at(alloc, value, path, part),
+        Err(Stop::Nothing) => Ok(add_copy(without, path)?),
+        Err(stop) => Err(stop),
     }
 }
 

@@ -1,10 +1,9 @@
 -- What the outputs of a filter add to a list.
 use Rattle.std.specs.Prelude.{◌≡◌, ℕ, pos, List, [], ◌∷◌, ◌++◌, map, reverse, Some, None, Result, Ok, Err}
-use Rattle.jv_data.specs.Value.{Value, null, array, items_of, string}
+use Rattle.jv_data.specs.Value.{Value, null, array, items_of}
 use Rattle.jv_data.specs.Text.{text_of}
 use Rattle.jv_data.specs.View.{view}
 use Rattle.jv_data.specs.declared.values.Val.{Val}
-use Rattle.jq_ast.specs.Leaves.{key_of}
 use Rattle.jq_ast.specs.Named.{named}
 use Rattle.jq_tree.specs.Tree.{Name, Tree, Trees, reduce, whole}
 use Rattle.jq_meaning.specs.machine.Operations.{path_item}
@@ -26,19 +25,23 @@ use Rattle.jq_single.specs.declared.gathering.Supply.{Supply}
 use Rattle.jq_single.specs.declared.gathering.Supply.TheVariants as supply
 use Rattle.jq_single.specs.declared.rests.Rest.{Rest}
 use Rattle.jq_single.specs.declared.rests.Rest.TheVariants as rest
+use Rattle.jq_single.specs.declared.rests.Step.{Step}
+use Rattle.jq_single.specs.declared.rests.Step.TheVariants as step
 use Rattle.jq_single.specs.declared.stops.Stop.{Stop}
+
+-- Where a step leads to.
+abbrev pub step_run : Step → Item → Run Item
+step_run (step.At key guarded) x = on_target guarded (view key.now) x
+step_run (step.Parts guarded) x = each_part guarded x
+step_run step.Path x = path_item x
 
 -- The rest of the filter, applied to an output.
 abbrev pub rest_run : Run Value → (level : ℕ) → Rest → Item → Run Item
 rest_run inputs level (rest.End most) x = one x
-rest_run inputs level (rest.Then' t p q later) x = bind (run p.now inputs level (named t.now) x) (rest_run inputs level later)
-rest_run inputs level (rest.Bind' n t p y q later) x =
-    bind (meaning p.now.depth (named t.now) (bound (value_of (text_of n.now) (value_in x)) (scope_env inputs p.now.scope.now)) level (item_of y.now))
-    (rest_run inputs level later)
-rest_run inputs level (rest.Field' key guarded q later) x = bind (on_target guarded (string (key_of key.now)) x) (rest_run inputs level later)
-rest_run inputs level (rest.At' key guarded q later) x = bind (on_target guarded (view key.now) x) (rest_run inputs level later)
-rest_run inputs level (rest.Parts' guarded q later) x = bind (each_part guarded x) (rest_run inputs level later)
-rest_run inputs level (rest.Path' q later) x = bind (path_item x) (rest_run inputs level later)
+rest_run inputs level (rest.Then' t s d q later) x = bind (meaning d (named t.now) (scope_env inputs s.now) level x) (rest_run inputs level later)
+rest_run inputs level (rest.Bind' n t s d y q later) x =
+    bind (meaning d (named t.now) (bound (value_of (text_of n.now) (value_in x)) (scope_env inputs s.now)) level (item_of y.now)) (rest_run inputs level later)
+rest_run inputs level (rest.Step' s q later) x = bind (step_run s.now x) (rest_run inputs level later)
 rest_run inputs level (rest.Fold n t p) x = one x
 
 -- The last of some values, or v if there is none; a fold keeps its state there.
@@ -60,12 +63,9 @@ folded p inputs level n t xs r = reduced (turn p inputs level n t) r.items r.end
 -- The result for the values of a list followed by those of a run: an array of them all, or the last state of a fold.
 abbrev pub made : Run Value → (level : ℕ) → Rest → List Val → Run Item → Run Item
 made inputs level (rest.End most) xs r = go_on r.ending (one (plain (array (items_of (map view xs ++ map value_in r.items)))))
-made inputs level (rest.Then' t p q later) xs r = made inputs level later xs r
-made inputs level (rest.Bind' n t p y q later) xs r = made inputs level later xs r
-made inputs level (rest.Field' key guarded q later) xs r = made inputs level later xs r
-made inputs level (rest.At' key guarded q later) xs r = made inputs level later xs r
-made inputs level (rest.Parts' guarded q later) xs r = made inputs level later xs r
-made inputs level (rest.Path' q later) xs r = made inputs level later xs r
+made inputs level (rest.Then' t s d q later) xs r = made inputs level later xs r
+made inputs level (rest.Bind' n t s d y q later) xs r = made inputs level later xs r
+made inputs level (rest.Step' s q later) xs r = made inputs level later xs r
 made inputs level (rest.Fold n t p) xs r = folded p.now inputs level (text_of n.now) (named t.now) xs r
 
 -- If a run was gathered to its end, a list became another: the first list with this run and any run q after it has the same
@@ -78,10 +78,21 @@ Gathers make (Err s) xs ys r = (q : Run Item) → Ends s (make xs (then_run r q)
 abbrev pub GathersRun : {A : Type 0} → Run Item → Rest → Result A Stop → (before later : List Val) → Type 0
 GathersRun r later result xs ys = (inputs : Run Value) (level : ℕ) → Gathers (made inputs level later) result xs ys (bind r (rest_run inputs level later))
 
+-- The same for the outputs of a body on an item, in which a variable is bound to a value.
+abbrev pub GathersBound : {A : Type 0} → Context → Name → Tree → Value → Item → Rest → Result A Stop → (before later : List Val) → Type 0
+GathersBound p n t v x later result xs ys =
+    (inputs : Run Value) (level : ℕ)
+    → Gathers (made inputs level later) result xs ys (bind (meaning p.depth t (bound (value_of n v) (scope_env inputs p.scope.now)) level x) (rest_run inputs level later))
+
 -- The same for the outputs of a tree on an item.
 abbrev pub GathersOf : {A : Type 0} → Context → Tree → Item → Rest → Result A Stop → (before later : List Val) → Type 0
 GathersOf p t x later result xs ys =
     (inputs : Run Value) (level : ℕ) → Gathers (made inputs level later) result xs ys (bind (run p inputs level t x) (rest_run inputs level later))
+
+-- The same for where a step leads to from these outputs.
+abbrev pub GathersStep : {A : Type 0} → Context → Tree → Item → Step → Rest → Result A Stop → (before later : List Val) → Type 0
+GathersStep p t x s later result xs ys =
+    (inputs : Run Value) (level : ℕ) → Gathers (made inputs level later) result xs ys (bind (run p inputs level t x) (λ y. bind (step_run s y) (rest_run inputs level later)))
 
 -- The same for the paths of a tree into a value.
 abbrev pub GathersPaths : {A : Type 0} → Context → Tree → Value → Rest → Result A Stop → (before later : List Val) → Type 0
@@ -103,6 +114,7 @@ numbers_from ns = elim ns.next [ None ↦ none | Some n ↦ numbers_up_to n ns.e
 
 -- the items of a supply
 abbrev pub supplied : Supply → Run Item
+supplied (supply.One o) = elim o [ None ↦ none | Some x ↦ one (item_of x) ]
 supplied (supply.Items xs) = given_of xs.items
 supplied (supply.Numbers ns) = numbers_from ns
 

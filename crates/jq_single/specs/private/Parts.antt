@@ -1,5 +1,5 @@
 -- The outputs of the parts of a filter that has at most one output.
-use Rattle.std.specs.Prelude.{◌≡◌, ℕ, List, map, Result}
+use Rattle.std.specs.Prelude.{◌≡◌, ℕ, List, map, Option, Some, None, Result, Ok, Err}
 use Rattle.jq_natives.specs.declared.native.Native.{Native}
 use Rattle.jv_data.specs.Value.{Value}
 use Rattle.jv_data.specs.View.{view}
@@ -43,6 +43,16 @@ ChangesTo p t v w result = (inputs : Run Value) (level : ℕ) → Changed result
 -- The run of a tree, followed by another filter.
 abbrev pub Follows : Context → Tree → Value → (Item → Run Item) → Result Val Stop → Type 0
 Follows p t v next result = (inputs : Run Value) (level : ℕ) → Answers result (bind (run p inputs level t (plain v)) next)
+
+-- A value that counts is the output of an alternative, and without one its right side is run.
+abbrev pub found_or : Option Val → Run Item → Run Item
+found_or (Some v) q = one (plain (view v))
+found_or None q = q
+
+-- The answer of a run whose error is caught, or the error that the handler is run on.
+abbrev pub Catches : Result (Result Val Stop) Val → (handler : Value → Run Item) → Run Item → Type 0
+Catches (Ok a) handler r = Answers a r
+Catches (Err e) handler r = r ≡ handler (view e)
 
 -- ---- names of the language
 

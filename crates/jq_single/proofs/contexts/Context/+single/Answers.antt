@@ -1,7 +1,6 @@
-use Rattle.std.proofs.Common.{rules, List, Ok, [], suc, ◌≡◌, ◌≤◌, ◌∷◌, ◌∙◌, ◌-◌, arith, drop, get_or, length, map, refl, sym, ap, subst, take}
+use Rattle.std.proofs.Common.{rules, List, Ok, [], suc, ◌≡◌, ◌≤◌, ◌∷◌, ◌∙◌, ◌-◌, arith, drop, get_or, length, refl, sym, ap, subst, take}
 use Rattle.std.proofs.lemmas.List.{drop_more, take_rest}
 use Rattle.jv_data.proofs.shared.Levels.{view-Text}
-use Rattle.jv_data.specs.Shared.{text_in}
 use Rattle.jv_data.specs.Value.{string}
 use Rattle.jv_data.specs.Text.{text_of}
 use Rattle.jv_data.specs.View.{view}
@@ -13,20 +12,19 @@ use Rattle.jq_tree.specs.Tree.{Tree, whole}
 use Rattle.jq_meaning.specs.Builtins.{range_of}
 use Rattle.jq_meaning.specs.Folds.{reduced}
 use Rattle.jq_meaning.specs.Meaning.{below, bindings_with, meaning}
-use Rattle.jq_meaning.specs.Continuations.{text_item, on_source, on_state, on_target, on_back, on_inserted, on_entry_key, on_test, on_error, on_left, on_right}
+use Rattle.jq_meaning.specs.Continuations.{text_item, on_source, on_state, on_target, on_back, on_inserted, on_entry_key, on_test, on_left, on_right}
 use Rattle.jq_meaning.specs.Runs.{Run, Item, plain, located, as_value, none, one, bind}
 use Rattle.jq_single.specs.private.Scopes.{scope_env}
 use Rattle.jq_meaning.proofs.shared.machine.RunLaws.{bind-bind, bind-then_run}
 use Rattle.jq_single.specs.private.Gathering.{Gathers, made, rest_run, supplied, turn}
 use Rattle.jq_single.specs.private.Making.{entries_in}
-use Rattle.jq_operations.specs.Outputs.{outputs_of}
 use Rattle.jq_state.specs.Items.{item_of}
 use Rattle.jq_state.proofs.shared.Items.{absent, value_of_item}
-use Rattle.jq_single.specs.private.Updates.{listed, part_run}
+use Rattle.jq_single.specs.private.Updates.{part_run}
 use Rattle.jq_single.specs.private.Parts.{run}
 use Rattle.jq_single.specs.Single.{Changed, Ends}
-use Rattle.jq_single.proofs.Binding.{part_stops, bind-known, comes-bind, ends-bind, gathers_fail, gathers_stops, known_runs, stops, with_variable, gathers-then, gathers_all, gives_first, stops_first, stops-then, items-same, bound_rest, fold_value, turned, fold_all, single_fold}
-use Rattle.jq_single.proofs.UpdateTurns.{changed-first, first-then, getpath_keys, listed_more, takes_turns, turn_lists, turn_raises, turn_sets}
+use Rattle.jq_single.proofs.Binding.{part_stops, bind-known, comes-bind, ends-bind, gathers_stops, known_runs, stops, with_variable, gathers-then, gathers_all, gives_first, stops_first, stops-then, items-same, bound_rest, fold_value, turned, fold_all, single_fold}
+use Rattle.jq_single.proofs.UpdateTurns.{changed-first, getpath_keys, takes_turns}
 use Rattle.jq_single.proofs.Calls.{paths-rest, body_runs, named-Identity, text_is, native_plain, one_value, two_chosen}
 use Rattle.jq_single.proofs.contexts.Context.+single.Goals as goal
 
@@ -42,7 +40,7 @@ get_made-returns-in_ok-text-in-Text t c = λ inputs level.
 
 pub get_made-returns-in_err-text-in-Text : goal.get_made-returns-in_err-text-in-Text
 get_made-returns-in_err-text-in-Text t c = λ inputs level.
-    rw (ap named c.in-Text.is ∙ named-Text c.in-Text.format c.in-Text.pieces c.in-Text.last, ← c.as_slice.ensures.value) (part_stops _ _ _ _ text_item c.from_residual-in_err-text-in-Text.ensures.1 (c.in_err-text-in-Text.ensures inputs level))
+    rw (ap named c.in-Text.is ∙ named-Text c.in-Text.format c.in-Text.pieces c.in-Text.last, ← c.as_slice.ensures.value) (part_stops _ _ _ _ text_item c.from_residual.ensures.1 (c.in_err-text-in-Text.ensures inputs level))
 
 pub get_made-returns-in-Field : goal.get_made-returns-in-Field
 get_made-returns-in-Field t c = λ inputs level.
@@ -53,13 +51,12 @@ get_made-returns-in-Field t c = λ inputs level.
 pub get_made-returns-in-Object : goal.get_made-returns-in-Object
 get_made-returns-in-Object t c = λ inputs level. rw (ap named c.in-Object.is ∙ named-Object c.in-Object.entries, ← c.as_slice-in-Object.ensures.value) (c.object.ensures inputs level)
 
-pub pieces-returns-in_ok-text_in_format-in-len1-up : goal.pieces-returns-in_ok-text_in_format-in-len1-up
+pub pieces-returns-in_ok-found-in-len1-up : goal.pieces-returns-in_ok-found-in-len1-up
 unfolding on_back on_inserted
-pieces-returns-in_ok-text_in_format-in-len1-up t c = λ inputs level.
-    let made = rw (c.as_str-front.ensures.value, c.as_str-in-len1-up.ensures) at c.in_ok-text_in_format-in-len1-up.ensures in
+pieces-returns-in_ok-found-in-len1-up t c = λ inputs level.
     rw (split c.args.pieces.now c.piece-item.result c.in-len1-up.len_at_least c.piece-item.is)
     (comes-bind _ _ _ _ _ (c.in_ok-back-in-len1-up.ensures inputs level)
-    (comes-bind _ _ _ _ _ (c.in_ok-found-in-len1-up.ensures inputs level) (c.inserted.ensures (text_of c.piece-item.result.before) (text_in c.in_ok-back-in-len1-up.back) _ made)))
+    (comes-bind _ _ _ _ _ (c.in_ok-found-in-len1-up.ensures inputs level) (rw (c.as_str-in-len1-up.ensures.value, c.as_str-in-len1-up-2.ensures) at c.text_between.ensures)))
 
 pub with_entry-returns-in-Text : goal.with_entry-returns-in-Text
 unfolding on_entry_key
@@ -70,10 +67,6 @@ pub binary-returns : goal.binary-returns
 unfolding on_left on_right
 binary-returns t c = λ inputs level.
     comes-bind _ _ _ _ _ (c.in_ok-second.ensures inputs level) (comes-bind _ _ _ _ _ (c.in_ok-first.ensures inputs level) (c.answer.ensures.runs _ c.operated.ensures))
-
-pub try_catch-returns-in-Err-Raised : goal.try_catch-returns-in-Err-Raised
-unfolding on_error
-try_catch-returns-in-Err-Raised t c = λ inputs level. rw ((rw c.in-Err-Raised.field-0-is at c.in-Err-Raised.ensures) inputs level, on_error) (c.get-in-Err-Raised.ensures inputs level)
 
 pub change_builtin-returns-in-Native-clause-runs : goal.change_builtin-returns-in-Native-clause-runs
 change_builtin-returns-in-Native-clause-runs t c = λ inputs level. rw (c.in-Native.is, native_plain) (c.change_native.ensures.runs inputs level)
@@ -95,9 +88,11 @@ gather-returns-in-Field t c = λ inputs level.
     let go : Tree → Run Item = λ u. run c.args.self.now inputs level u (item_of c.args.item.now) in
     let later : Item → Run Item = rest_run inputs level c.args.rest.now in
     let target : c.in-Field.target.value ≡ c.deref-in-Field.result.now = search rules in
+    let key : view c.value.result.now ≡ string (key_of c.in-Field.key) = ap view c.value.ensures.same ∙ text_is (view c.in-Field.key.value) c.in-Field.key.text in
     let field = ap named c.in-Field.is ∙ named-Field c.in-Field.target c.in-Field.key c.in-Field.guarded ∙ ap (λ u. form.field (named u) (key_of c.in-Field.key) c.in-Field.guarded) target in
-    subst (Gathers (made inputs level c.args.rest.now) c.gather-in-Field.result c.args.into.now.items c.gather-in-Field.new.into.items)
-    (sym (ap (λ u. bind (go u) later) field ∙ bind-bind (go (named c.deref-in-Field.result.now)) (on_target c.in-Field.guarded (string (key_of c.in-Field.key))) later)) (c.gather-in-Field.ensures inputs level)
+    subst (Gathers (made inputs level c.args.rest.now) c.gather_step-in-Field.result c.args.into.now.items c.gather_step-in-Field.new.into.items)
+    (sym (ap (λ u. bind (go u) later) field ∙ ap (λ k. bind (bind (go (named c.deref-in-Field.result.now)) (on_target c.in-Field.guarded k)) later) (sym key) ∙ bind-bind (go (named c.deref-in-Field.result.now)) (on_target c.in-Field.guarded (view c.value.result.now)) later))
+    (c.gather_step-in-Field.ensures inputs level)
 
 pub gather_pipe-returns : goal.gather_pipe-returns
 gather_pipe-returns t c = λ inputs level.
@@ -165,7 +160,7 @@ pub gather_paths-returns : goal.gather_paths-returns
 gather_paths-returns t c = λ inputs level.
     let start = c.start-start.ensures ∙ ap (λ v. located v []) c.in_ok-copy.ensures in
     let go : Item → Run Item = run c.args.self.now inputs level (named c.args.tree.now) in
-    rw (paths-rest (go (located (view c.args.value.now) [])) (rest_run inputs level c.args.rest.now), ← start) (c.gather.ensures inputs level)
+    rw (paths-rest (go (located (view c.args.value.now) [])) (rest_run inputs level c.args.rest.now), ← start) (c.gather_step.ensures inputs level)
 
 pub give_all-returns : goal.give_all-returns
 give_all-returns t c = λ inputs level.
@@ -202,8 +197,9 @@ gather_range-returns-in-len2 t c = λ inputs level.
     let same = two_chosen c.args.self.now inputs level range_of c.args.arguments.now c.start-item.result c.end-item.result (view c.args.value.now) (omega (arith, c.in-len2.len_at_least, c.in-len2.len_below)) c.start-item.is c.end-item.is in
     rw same (c.ended-in-Err.ensures inputs level c.args.rest.now _ c.args.into.now.items (ends-bind _ _ _ (ends-bind _ _ _ (c.in-Err.ensures inputs level))))
 
-pub give_step-returns-in-Error : goal.give_step-returns-in-Error
-give_step-returns-in-Error t c = λ inputs level. gathers_fail inputs level c.args.later.now c.args.into.now.items (view c.in-Error.error) _ (ap (λ (r : Run Item). bind r (rest_run inputs level c.args.later.now)) (sym c.in_ok-run.ensures ∙ ap outputs_of c.in-Error.is))
+pub give_step-returns-in-Err : goal.give_step-returns-in-Err
+give_step-returns-in-Err t c = λ inputs level.
+    c.ended.ensures inputs level c.args.later.now _ c.args.into.now.items (ends-bind _ _ (rest_run inputs level c.args.later.now) c.in-Err.ensures)
 
 -- ---- folds
 
@@ -237,7 +233,7 @@ change_reduce-returns-in-len1-clause-runs t c = λ inputs level.
     let sources = bind r (on_source (bindings_with (below p.depth) (whole n) level) (scope_env inputs p.scope.now)) in
     let only : length c.as_slice.result.now ≡ 1 = omega (arith, c.in-len1.len_at_least, c.in-len1.len_below) in
     let values = sym c.as_slice.ensures.value ∙ one_value c.as_slice.result.now c.single-item.result only c.single-item.is in
-    let same = single_fold (below p.depth) level n (scope_env inputs p.scope.now) u r.items r.ending (view c.single-item.result) x (rw values at (c.in-Ok.ensures inputs level)) in
+    let same = single_fold (below p.depth) level n (scope_env inputs p.scope.now) u r.items r.ending (view c.single-item.result) x (rw (c.if-are_all.ensures, values) at (c.collect.ensures inputs level)) in
     rw (ap named_as_pattern c.in-Whole.is ∙ named-Whole c.in-Whole.name, ap named c.in-Identity.is ∙ named-Identity)
     (comes-bind _ c.step.result (one x) x (reduced (on_state u level) sources.items sources.ending) refl
     (subst (Changed c.step.result (view c.step.new.state)) (sym same) (c.step.ensures.runs inputs level one)))
@@ -246,6 +242,9 @@ pub change_reduce-returns-in_default-start : goal.change_reduce-returns-in_defau
 change_reduce-returns-in_default-start t c =
     let same = ap named_as_pattern c.in-Whole.is ∙ named-Whole c.in-Whole.name in
     record { runs = λ inputs level. rw same (c.change_from.ensures.runs inputs level); keeps = c.change_from.ensures.keeps }
+
+pub change_reduce-returns-then-is_cheap-clause-runs : goal.change_reduce-returns-then-is_cheap-clause-runs
+change_reduce-returns-then-is_cheap-clause-runs t c = λ inputs level. rw (ap named_as_pattern c.in-Whole.is ∙ named-Whole c.in-Whole.name) (c.change_from-then-is_cheap.ensures.runs inputs level)
 
 pub change_reduce-returns-in_default-as_slice-clause-runs : goal.change_reduce-returns-in_default-as_slice-clause-runs
 change_reduce-returns-in_default-as_slice-clause-runs t c = λ inputs level. rw (ap named_as_pattern c.in-Whole.is ∙ named-Whole c.in-Whole.name) (c.change_from-in_default-as_slice.ensures.runs inputs level)
@@ -265,19 +264,6 @@ turn-returns-in_err-step t c = λ inputs level.
 pub change_first-returns-in_default-clause-runs : goal.change_first-returns-in_default-clause-runs
 change_first-returns-in_default-clause-runs t c = λ inputs level. changed-first _ _ _ (c.change.ensures.runs inputs level)
 
-pub change_first_of_two-returns-in-Ok-clause-runs : goal.change_first_of_two-returns-in-Ok-clause-runs
-change_first_of_two-returns-in-Ok-clause-runs t c = λ inputs level.
-    first-then (run c.args.self.now inputs level (named c.args.left.now) (plain (view c.args.value.now))) (run c.args.self.now inputs level (named c.args.right.now) (plain (view c.args.value.now))) _ (rw c.in_ok-output.ensures at (c.in-Ok.ensures.runs inputs level))
-
-pub change_first_of_two-returns-in-Err-Nothing-clause-runs : goal.change_first_of_two-returns-in-Err-Nothing-clause-runs
-change_first_of_two-returns-in-Err-Nothing-clause-runs t c = λ inputs level.
-    rw (first-then (run c.args.self.now inputs level (named c.args.left.now) (plain (view c.args.value.now))) (run c.args.self.now inputs level (named c.args.right.now) (plain (view c.args.value.now))) none ((rw (c.in-Err-Nothing.field-0-is, c.in_ok-output.ensures) at c.in-Err-Nothing.ensures.runs) inputs level))
-    (c.change_first-in-Err-Nothing.ensures.runs inputs level)
-
-pub change_first_of_two-returns-in-Err-Raised-clause-runs : goal.change_first_of_two-returns-in-Err-Raised-clause-runs
-change_first_of_two-returns-in-Err-Raised-clause-runs t c = λ inputs level.
-    first-then (run c.args.self.now inputs level (named c.args.left.now) (plain (view c.args.value.now))) (run c.args.self.now inputs level (named c.args.right.now) (plain (view c.args.value.now))) _ ((rw (c.in-Err-Raised.field-0-is, c.in_ok-output.ensures) at c.in-Err-Raised.ensures.runs) inputs level)
-
 pub change_update-returns-then-not-self-clause-runs : goal.change_update-returns-then-not-self-clause-runs
 change_update-returns-then-not-self-clause-runs t c =
     takes_turns c.an_update_is_its_turns.ensures c.args.self.now (c.args.self.now.depth - 2) (named c.args.tree.now) (named c.in-Some.paths.now) (named c.in-Some.update.now) (view c.args.value.now) 1048576 (tt {0}) c.new-found.result.items c.gather_paths.new.into.items c.in-Some.ensures (omega arith) c.new-found.ensures.items (c.has_modify.ensures (search rules)) c.in-Ok.ensures c.change_each.result (view c.change_each.new.value) (rw (← c.as_slice-found.ensures.value) (c.change_each.ensures.runs))
@@ -292,20 +278,22 @@ change_update-returns-clause-runs t c =
     takes_turns c.an_update_is_its_turns.ensures c.args.self.now (c.args.self.now.depth - 2) (named c.args.tree.now) (named c.in-Some.paths.now) (named c.in-Some.update.now) (view c.args.value.now) 1048576 (tt {0}) c.new-found.result.items c.gather_paths.new.into.items c.in-Some.ensures (omega arith) c.new-found.ensures.items (c.has_modify.ensures (search rules)) c.in-Ok.ensures
     (Ok (tt {0})) (view c.change_each-2.new.value) (λ inputs level. rw (← c.as_slice-found.ensures.value, ← c.in_ok-changed.ensures) (c.in_ok-change_each.ensures.runs inputs level))
 
-pub change_part-returns-in-Ok-change_first-clause-turn : goal.change_part-returns-in-Ok-change_first-clause-turn
-change_part-returns-in-Ok-change_first-clause-turn t c = λ inputs level go.
-    let got = getpath_keys (view c.args.value.now) c.args.path.now c.in-List.keys c.as_slice.result.now c.in-List.is c.as_slice.ensures ∙ c.in-Ok.ensures in
-    turn_sets level (view c.args.value.now) (listed c.args.without.now.items) (view c.args.path.now) go (part_run c.args.self.now inputs level (named c.args.update.now)) (view c.in-Ok.part) got c.put_at.result (view c.change_first.new.value) (view c.put_at.new.value)
-    (c.in-Ok-change_first.ensures.runs inputs (suc level)) c.put_at.ensures.runs
+pub change_first_of_two-returns-then-branch-clause-runs : goal.change_first_of_two-returns-then-branch-clause-runs
+change_first_of_two-returns-then-branch-clause-runs t c = λ inputs level.
+    let go : Tree → Run Item = λ u. run c.args.self.now inputs level u (plain (view c.args.value.now)) in
+    rw c.if-branch.true at c.in_ok-has_output.ensures (view c.change_first.new.value) (go (named c.args.left.now)) (go (named c.args.right.now)) (rw c.in_ok-output.ensures at c.change_first.ensures.runs inputs level)
 
-pub change_part-returns-in-Err-Nothing-clause-turn : goal.change_part-returns-in-Err-Nothing-clause-turn
-change_part-returns-in-Err-Nothing-clause-turn t c = λ inputs level go.
-    let got = getpath_keys (view c.args.value.now) c.args.path.now c.in-List.keys c.as_slice.result.now c.in-List.is c.as_slice.ensures ∙ c.in-Ok.ensures in
-    turn_lists level (view c.args.value.now) (listed c.args.without.now.items) (view c.args.path.now) go (part_run c.args.self.now inputs level (named c.args.update.now)) (view c.in-Ok.part) got (listed c.add_copy.new.without.items)
-    ((rw c.in-Err-Nothing.field-0-is at c.in-Err-Nothing.ensures.runs) inputs (suc level)) (listed_more (map view c.args.without.now.items) _ (view c.args.path.now) c.in_ok-add_copy-in-Err-Nothing.ensures)
+pub change_first_of_two-returns-else-branch-clause-runs : goal.change_first_of_two-returns-else-branch-clause-runs
+change_first_of_two-returns-else-branch-clause-runs t c = λ inputs level.
+    let go : Tree → Run Item = λ u. run c.args.self.now inputs level u (plain (view c.args.value.now)) in
+    let same = rw c.if-branch.false at c.in_ok-has_output.ensures (view c.change_first.new.value) (go (named c.args.left.now)) (go (named c.args.right.now)) (rw c.in_ok-output.ensures at c.change_first.ensures.runs inputs level) in
+    subst (Changed c.change_first-else-branch.result (view c.change_first-else-branch.new.value)) (sym same) (c.change_first-else-branch.ensures.runs inputs level)
 
-pub change_part-returns-in-Err-Raised-clause-turn : goal.change_part-returns-in-Err-Raised-clause-turn
-change_part-returns-in-Err-Raised-clause-turn t c = λ inputs level go.
+pub change_part-returns-clause-turn : goal.change_part-returns-clause-turn
+change_part-returns-clause-turn t c = λ inputs level go.
     let got = getpath_keys (view c.args.value.now) c.args.path.now c.in-List.keys c.as_slice.result.now c.in-List.is c.as_slice.ensures ∙ c.in-Ok.ensures in
-    turn_raises level (view c.args.value.now) (listed c.args.without.now.items) (view c.args.path.now) go (part_run c.args.self.now inputs level (named c.args.update.now)) (view c.in-Ok.part) got (view c.in-Err-Raised.error)
-    ((rw c.in-Err-Raised.field-0-is at c.in-Err-Raised.ensures.runs) inputs (suc level))
+    c.placed.ensures.turn level (part_run c.args.self.now inputs level (named c.args.update.now)) (view c.in-Ok.part) go got (c.change_first-done.ensures.runs inputs (suc level))
+
+pub step-returns-clause-runs : goal.step-returns-clause-runs
+step-returns-clause-runs t c = λ inputs level go.
+    c.settled.ensures.runs (view c.args.state.now) (turn c.args.self.now inputs level (text_of c.args.name.now) (named c.args.update.now) (plain (view c.args.single.now)) (plain (view c.args.state.now))) go (c.change-done.ensures.runs inputs level)

@@ -168,8 +168,11 @@ decreases-gather_paths l = 32 * l.self.now.fuel + 5
 abbrev pub decreases-give : goal.decreases-give
 decreases-give l = 32 * l.self.now.fuel + 5
 
-abbrev pub decreases-give_on : goal.decreases-give_on
-decreases-give_on l = 32 * l.self.now.fuel + 4
+abbrev pub decreases-give_bound : goal.decreases-give_bound
+decreases-give_bound l = 32 * l.self.now.fuel + 1
+
+abbrev pub decreases-gather_step : goal.decreases-gather_step
+decreases-gather_step l = 32 * l.self.now.fuel + 1
 
 abbrev pub decreases-give_step : goal.decreases-give_step
 decreases-give_step l = 32 * l.self.now.fuel + 3
