@@ -93,13 +93,21 @@ fn change(
         return Err("no value is set")?;
     };
     assert!(rt; same(&set, greater));
-    let Ok(part) = getpath(alloc, &set, path.as_slice()) else {
-        return Err("no part is found")?;
-    };
-    assert!(rt; same(&part, &Val::Num(2)));
+    assert!(rt; same(&part_at(alloc, &set, &path)?, &Val::Num(2)));
+    without(alloc, set, path)
+}
+
+fn part_at(alloc: Global, value: &Val, path: &[Val]) -> Result<Val, Fail> {
+    match getpath(alloc, value, path) {
+        Ok(part) => Ok(part),
+        Err(_) => Err("no part is found")?,
+    }
+}
+
+fn without(alloc: Global, value: Val, path: Vec<Val>) -> Result<Val, Fail> {
     let mut paths = Vec::with_capacity(alloc, 1)?;
     paths.push(path)?;
-    match delpaths(alloc, set, paths) {
+    match delpaths(alloc, value, paths) {
         Ok(left) => Ok(left),
         Err(_) => Err("no part is deleted")?,
     }
@@ -128,16 +136,18 @@ fn members_of_many_levels(rt: HostRuntime) -> Result<(), Fail> {
 #[test]
 fn union_of_many_levels(rt: HostRuntime) -> Result<(), Fail> {
     let alloc = rt.alloc();
-    let left = in_objects(alloc, in_object(alloc, "b", Val::Num(1))?)?;
-    let right = in_objects(alloc, in_object(alloc, "c", Val::Num(2))?)?;
-    let Ok(united) = mul(alloc, &left, &right) else {
-        return Err("no union is made")?;
-    };
+    let united = union(alloc)?;
     let path = path_of(alloc, &Val::from_text(alloc, "a")?)?;
-    let Ok(part) = getpath(alloc, &united, path.as_slice()) else {
-        return Err("no part is found")?;
-    };
-    let text = to_compact_string(alloc, &part)?;
+    let text = to_compact_string(alloc, &part_at(alloc, &united, &path)?)?;
     assert_eq!(rt; text.as_str(), "{\"b\":1,\"c\":2}");
     Ok(())
+}
+
+fn union(alloc: Global) -> Result<Val, Fail> {
+    let left = in_objects(alloc, in_object(alloc, "b", Val::Num(1))?)?;
+    let right = in_objects(alloc, in_object(alloc, "c", Val::Num(2))?)?;
+    match mul(alloc, &left, &right) {
+        Ok(united) => Ok(united),
+        Err(_) => Err("no union is made")?,
+    }
 }

@@ -82,14 +82,18 @@ fn ordering(rt: HostRuntime) -> Result<(), Fail> {
     }
     let mark = mark(alloc)?;
     for (value, equal, greater) in &rows {
-        assert_eq!(rt; order(value, equal), Ordering::Equal);
-        assert_eq!(rt; order(value, greater), Ordering::Less);
-        assert_eq!(rt; order(greater, value), Ordering::Greater);
-        assert!(rt; same(value, equal));
-        assert!(rt; !same(value, greater));
+        check_order(&rt, value, equal, greater);
     }
     assert!(rt; mark.is_empty());
     Ok(())
+}
+
+fn check_order(rt: &impl Abort, value: &Val, equal: &Val, greater: &Val) {
+    assert_eq!(rt; order(value, equal), Ordering::Equal);
+    assert_eq!(rt; order(value, greater), Ordering::Less);
+    assert_eq!(rt; order(greater, value), Ordering::Greater);
+    assert!(rt; same(value, equal));
+    assert!(rt; !same(value, greater));
 }
 
 // ---- printing
@@ -223,17 +227,36 @@ fn check_call(
     Ok(())
 }
 
+// The value, a path in it and what is put there.
+fn at_path(alloc: Global, kind: Kind) -> Result<[Val; 3], AllocError> {
+    let path = path_to(alloc, kind, key_at(alloc, kind, 0)?)?;
+    Ok([deep(alloc, kind, 1)?, path, Val::Num(2)])
+}
+
+fn at_paths(alloc: Global, kind: Kind) -> Result<[Val; 3], AllocError> {
+    Ok([deep(alloc, kind, 1)?, paths_to(alloc, kind)?, Val::Null])
+}
+
 fn check_paths(rt: &(impl Abort + AllocGlobal), kind: Kind) -> Result<(), Fail> {
     let alloc = rt.alloc();
     let kept = deep(alloc, kind, 1)?;
-    let path = path_to(alloc, kind, key_at(alloc, kind, 0)?)?;
-    let at_path = [deep(alloc, kind, 1)?, path, Val::Num(2)];
-    let at_paths = [deep(alloc, kind, 1)?, paths_to(alloc, kind)?, Val::Null];
     let (set, left) = (deep(alloc, kind, 2)?, left_over(alloc, kind)?);
-    let mark = mark(alloc)?;
-    check_call(rt, "getpath", (&at_path, &kept), &Val::Num(1))?;
-    check_call(rt, "setpath", (&at_path, &kept), &set)?;
-    check_call(rt, "delpaths", (&at_paths, &kept), &left)?;
+    check_at(rt, kind, &kept, [&set, &left])
+}
+
+// The part is found and set, and removed with the one before it. `kept` is the value before each call.
+fn check_at(
+    rt: &(impl Abort + AllocGlobal),
+    kind: Kind,
+    kept: &Val,
+    [set, left]: [&Val; 2],
+) -> Result<(), Fail> {
+    let at_path = at_path(rt.alloc(), kind)?;
+    let at_paths = at_paths(rt.alloc(), kind)?;
+    let mark = mark(rt.alloc())?;
+    check_call(rt, "getpath", (&at_path, kept), &Val::Num(1))?;
+    check_call(rt, "setpath", (&at_path, kept), set)?;
+    check_call(rt, "delpaths", (&at_paths, kept), left)?;
     assert!(rt; mark.is_empty());
     Ok(())
 }

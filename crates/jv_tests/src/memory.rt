@@ -54,31 +54,39 @@ fn gives(cutter: &mut Cutter, want: Option<&Val>) -> Result<bool, Fault>
     })
 }
 
-#[test]
-fn cutting(rt: HostRuntime) -> Result<(), Fail> {
-    let alloc = rt.alloc();
-    let (one, twelve) = (Val::Num(1), Val::Num(12));
-    let array = read(alloc, "[2,{\"k\":\"v\"}]")?;
-    let text = read(alloc, "\"aü\"")?;
-    let mark = mark(alloc)?;
-    let mut cutter = Cutter::new(alloc);
-    feed_again(&mut cutter, b"1")?;
-    assert!(rt; gives(&mut cutter, None)?);
-    feed_again(&mut cutter, b"[2,{\"k\"")?;
-    assert!(rt; gives(&mut cutter, Some(&one))?);
-    assert!(rt; gives(&mut cutter, None)?);
-    feed_again(&mut cutter, b":\"v\"}]\"a\\u00f")?;
-    assert!(rt; gives(&mut cutter, Some(&array))?);
-    assert!(rt; gives(&mut cutter, None)?);
-    feed_again(&mut cutter, b"c\"1")?;
-    assert!(rt; gives(&mut cutter, Some(&text))?);
-    feed_again(&mut cutter, b"2 x")?;
-    assert!(rt; gives(&mut cutter, Some(&twelve))?);
-    assert!(rt; gives(&mut cutter, None)?);
+// Whether after the piece the next value is this one, or there is none.
+fn cuts(cutter: &mut Cutter, piece: &[u8], want: Option<&Val>) -> bool
+    requires open { is_finished cutter.old ≡ false }
+    requires count { fed_count cutter.old + length piece.now < 2 ^ 64 }
+    ensures open { is_finished cutter.new ≡ false }
+    ensures count { fed_count cutter.new ≤ fed_count cutter.old + length piece.now }
+{
+    feed_again(cutter, piece).is_ok() && gives(cutter, want) == Ok(true)
+}
+
+fn check_cut(rt: &(impl Abort + AllocGlobal), [one, array, text, twelve]: [&Val; 4]) {
+    let mut cutter = Cutter::new(rt.alloc());
+    assert!(rt; cuts(&mut cutter, b"1", None));
+    assert!(rt; cuts(&mut cutter, b"[2,{\"k\"", Some(one)));
+    assert!(rt; gives(&mut cutter, None) == Ok(true));
+    assert!(rt; cuts(&mut cutter, b":\"v\"}]\"a\\u00f", Some(array)));
+    assert!(rt; gives(&mut cutter, None) == Ok(true));
+    assert!(rt; cuts(&mut cutter, b"c\"1", Some(text)));
+    assert!(rt; cuts(&mut cutter, b"2 x", Some(twelve)));
+    assert!(rt; gives(&mut cutter, None) == Ok(true));
     cutter.finish();
     let fault = Some(Fault::Malformed { at: 26 });
     assert_eq!(rt; gives(&mut cutter, None).err(), fault);
     assert_eq!(rt; gives(&mut cutter, None).err(), fault);
+}
+
+#[test]
+fn cutting(rt: HostRuntime) -> Result<(), Fail> {
+    let alloc = rt.alloc();
+    let array = read(alloc, "[2,{\"k\":\"v\"}]")?;
+    let text = read(alloc, "\"aü\"")?;
+    let mark = mark(alloc)?;
+    check_cut(&rt, [&Val::Num(1), &array, &text, &Val::Num(12)]);
     assert!(rt; mark.is_empty());
     Ok(())
 }
@@ -92,18 +100,20 @@ fn read_again(alloc: Global, text: &str) -> Result<Val, Fault> {
 
 const TEXT: &str = "{\"a\":[1,\"x\\ty\",null],\"b\":{\"c\":[],\"d\":{}},\"e\":\"\\u00fc\"}";
 
+static FAULTS: [(&str, Fault); 3] = [
+    ("[1,\"a\",{\"b\":[2]}", Fault::Unfinished { at: 0 }),
+    ("[1,\"a\",{\"b\":[2]]]", Fault::Malformed { at: 0 }),
+    (" [\"a\",[1.5]]", Fault::NotWhole { at: 1 }),
+];
+
 #[test]
 fn reading(rt: HostRuntime) -> Result<(), Fail> {
     let alloc = rt.alloc();
     let want = read(alloc, TEXT)?;
     let mark = mark(alloc)?;
     assert!(rt; same(&read_again(alloc, TEXT)?, &want));
-    for (text, fault) in [
-        ("[1,\"a\",{\"b\":[2]}", Fault::Unfinished { at: 0 }),
-        ("[1,\"a\",{\"b\":[2]]]", Fault::Malformed { at: 0 }),
-        (" [\"a\",[1.5]]", Fault::NotWhole { at: 1 }),
-    ] {
-        assert_eq!(rt; read_again(alloc, text).err(), Some(fault), "{text}");
+    for (text, fault) in &FAULTS {
+        assert_eq!(rt; read_again(alloc, *text).err(), Some(*fault), "{text}");
     }
     assert!(rt; mark.is_empty());
     Ok(())
@@ -111,7 +121,7 @@ fn reading(rt: HostRuntime) -> Result<(), Fail> {
 
 // ---- printing
 
-const STYLES: [(bool, bool, bool); 6] = [
+static STYLES: [(bool, bool, bool); 6] = [
     (true, false, false),
     (false, false, false),
     (true, true, false),
@@ -136,10 +146,8 @@ pub(crate) fn print_again(
         assert_eq!(rt; out.as_slice(), before.as_bytes(), "{style:?}");
         print(rt.alloc(), value, style, &mut out)?;
     }
-    let (front, back) = (before.as_bytes(), want.as_bytes());
-    assert!(rt; out.as_slice().starts_with(front), "{style:?}");
-    let printed = out.as_slice().get(front.len()..);
-    assert!(rt; printed.is_some_and(|bytes| bytes == back), "{style:?}");
+    let printed = out.as_slice().strip_prefix(before.as_bytes());
+    assert_eq!(rt; printed, Some(want.as_bytes()), "{style:?}");
     Ok(())
 }
 
@@ -151,15 +159,15 @@ fn printing(rt: HostRuntime) -> Result<(), Fail> {
     let compact = "[1,{\"k\":\"a\\nb\"},[]]";
     let pretty = "[\n  1,\n  {\n    \"k\": \"a\\nb\"\n  },\n  []\n]";
     let mark = mark(alloc)?;
-    for (is_compact, raw, join) in STYLES {
+    for (is_compact, raw, join) in &STYLES {
         let style = Style {
-            compact: is_compact,
-            raw,
-            join,
+            compact: *is_compact,
+            raw: *raw,
+            join: *join,
         };
         for before in ["", "before\n"] {
-            let shown = if is_compact { compact } else { pretty };
-            let quoted = if raw || join { "a\nü" } else { "\"a\\nü\"" };
+            let shown = if *is_compact { compact } else { pretty };
+            let quoted = if *raw || *join { "a\nü" } else { "\"a\\nü\"" };
             check_printed(&rt, (&array, shown), style, before)?;
             check_printed(&rt, (&text, quoted), style, before)?;
         }
@@ -190,23 +198,25 @@ fn format_again(alloc: Global, kind: Format, value: &Val) -> Result<String, Fail
     }
 }
 
+static FORMATS: [(Format, &str); 8] = [
+    (Format::Plain, "[\"a\\t\\\"<ü\",null,7]"),
+    (Format::Json, "[\"a\\t\\\"<ü\",null,7]"),
+    (Format::Csv, "\"a\t\"\"<ü\",,7"),
+    (Format::Tsv, "a\\t\"<ü\t\t7"),
+    (Format::Html, "[&quot;a\\t\\&quot;&lt;ü&quot;,null,7]"),
+    (Format::Uri, "%5B%22a%5Ct%5C%22%3C%C3%BC%22%2Cnull%2C7%5D"),
+    (Format::Sh, "'a\t\"<ü' null 7"),
+    (Format::Base64, "WyJhXHRcIjzDvCIsbnVsbCw3XQ=="),
+];
+
 #[test]
 fn formats(rt: HostRuntime) -> Result<(), Fail> {
     let alloc = rt.alloc();
     let row = read(alloc, "[\"a\\t\\\"<ü\",null,7]")?;
     let mark = mark(alloc)?;
-    for (kind, want) in [
-        (Format::Plain, "[\"a\\t\\\"<ü\",null,7]"),
-        (Format::Json, "[\"a\\t\\\"<ü\",null,7]"),
-        (Format::Csv, "\"a\t\"\"<ü\",,7"),
-        (Format::Tsv, "a\\t\"<ü\t\t7"),
-        (Format::Html, "[&quot;a\\t\\&quot;&lt;ü&quot;,null,7]"),
-        (Format::Uri, "%5B%22a%5Ct%5C%22%3C%C3%BC%22%2Cnull%2C7%5D"),
-        (Format::Sh, "'a\t\"<ü' null 7"),
-        (Format::Base64, "WyJhXHRcIjzDvCIsbnVsbCw3XQ=="),
-    ] {
-        match format_again(alloc, kind, &row) {
-            Ok(found) => assert_eq!(rt; found.as_str(), want),
+    for (kind, want) in &FORMATS {
+        match format_again(alloc, *kind, &row) {
+            Ok(found) => assert_eq!(rt; found.as_str(), *want),
             Err(_) => Err("no text")?,
         }
     }
@@ -225,19 +235,26 @@ fn text_again(alloc: Global, value: &Val) -> Result<(String, String), NoMemory> 
     }
 }
 
+fn check_texts(
+    rt: &(impl Abort + AllocGlobal),
+    value: &Val,
+    (quoted, plain): (&str, &str),
+) -> Result<(), Fail> {
+    let (text, other) = text_again(rt.alloc(), value)?;
+    assert_eq!(rt; text.as_str(), quoted);
+    assert_eq!(rt; other.as_str(), plain);
+    Ok(())
+}
+
 #[test]
 fn texts(rt: HostRuntime) -> Result<(), Fail> {
     let alloc = rt.alloc();
     let string = read(alloc, "\"a\\nü\"")?;
     let object = read(alloc, TEXT)?;
     let mark = mark(alloc)?;
-    let (quoted, plain) = text_again(alloc, &string)?;
-    assert_eq!(rt; quoted.as_str(), "\"a\\nü\"");
-    assert_eq!(rt; plain.as_str(), "a\nü");
-    let (text, same_text) = text_again(alloc, &object)?;
+    check_texts(&rt, &string, ("\"a\\nü\"", "a\nü"))?;
     let want = "{\"a\":[1,\"x\\ty\",null],\"b\":{\"c\":[],\"d\":{}},\"e\":\"ü\"}";
-    assert_eq!(rt; text.as_str(), want);
-    assert_eq!(rt; same_text.as_str(), want);
+    check_texts(&rt, &object, (want, want))?;
     assert!(rt; mark.is_empty());
     Ok(())
 }
@@ -299,7 +316,7 @@ pub(crate) fn call_again(alloc: Global, name: &str, values: &[Val; 3]) -> Result
 // A call, its arguments and what it answers or raises.
 type Row = (&'static str, [&'static str; 3], &'static str);
 
-const ROWS: [Row; 20] = [
+static ROWS: [Row; 20] = [
     ("add", ["1", "2", "0"], "3"),
     ("add", ["[1]", "[2,{}]", "0"], "[1,2,{}]"),
     ("add", ["\"a\"", "\"ü\"", "0"], "\"aü\""),

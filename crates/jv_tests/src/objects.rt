@@ -1,7 +1,9 @@
 // Objects with the names of earlier objects of one stream, and objects of many members.
 use crate::containers::assert_is;
-use jv_data::{Object, Val, same};
+use jv_data::{Object, Val};
 use jv_text::Cutter;
+use std::alloc::{AllocError, Global};
+use std::process::Abort;
 use std::test::Fail;
 
 const TEXTS: &str = r#"{"c":1,"a":2,"b":3}
@@ -30,23 +32,35 @@ fn names_of_earlier_objects(rt: HostRuntime) -> Result<(), Fail> {
     Ok(())
 }
 
+fn name_of(alloc: Global, n: i64) -> Result<String, AllocError> {
+    format!(in alloc; "{}", n.wrapping_mul(37) % 151)
+}
+
+// A member is removed from an object, and another that shares its members keeps it.
+fn check_removal(
+    rt: &(impl Abort + AllocGlobal),
+    members: &mut Object<Val>,
+    others: &Object<Val>,
+    n: i64,
+) -> Result<(), Fail> {
+    let name = name_of(rt.alloc(), n)?;
+    let removed = members.remove(name.as_str())?;
+    assert!(rt; matches!(&removed, Some(Val::Num(number)) if *number == n));
+    let kept = others.get(name.as_str());
+    assert!(rt; matches!(kept, Some(Val::Num(number)) if *number == n));
+    Ok(())
+}
+
 #[test]
 fn objects_of_many_members(rt: HostRuntime) -> Result<(), Fail> {
     let alloc = rt.alloc();
     let mut members = Object::new(alloc)?;
     for n in 0..150_i64 {
-        members.insert(
-            format!(in alloc; "{}", n.wrapping_mul(37) % 151)?,
-            Val::Num(n),
-        )?;
+        members.insert(name_of(alloc, n)?, Val::Num(n))?;
     }
     let few = members.share()?;
     for n in 0..150_i64 {
-        let name = format!(in alloc; "{}", n.wrapping_mul(37) % 151)?;
-        let value = members.remove(name.as_str())?;
-        assert!(rt; value.is_some_and(|value| same(&value, &Val::Num(n))));
-        let kept = few.get(name.as_str());
-        assert!(rt; kept.is_some_and(|value| same(value, &Val::Num(n))));
+        check_removal(&rt, &mut members, &few, n)?;
     }
     assert_eq!(rt; members.len(), 0);
     assert_eq!(rt; few.len(), 150);
