@@ -2,212 +2,185 @@
 use crate::bounds::{Fold, edit_values, is_within, least_meeting, next_edit, states};
 use crate::samples::{Digits, Largest, Sums};
 use crate::shown::{
-    Edit, applied, change, changed, inputs_of, numbers, ones, shown, start, written,
+    Changed, Edit, Sample, applied, changed, inputs_of, make_edit, ones, over, shown, start,
+    written,
 };
-use jq_pages::{Change, Last, Pages, Refusal, Steps};
+use jq_pages::{Change, Last, Pages, Piece, Refusal, Steps};
 use jv_data::{NoMemory, Val};
 use std::alloc::Global;
 use std::process::Abort;
 use std::test::Fail;
 
-// The edits in turn: each with its answer, how many steps it starts, and the pieces after it.
+// An edit with its answer, how many steps it starts, and the pieces after it.
+type Row = (Edit, Result<Changed, Refusal>, u64, &'static str);
+
+// The edits in turn.
 fn check<S: Steps>(
     rt: &(impl Abort + AllocGlobal),
     pages: &mut Pages<S>,
-    rows: &[(Edit, Result<Change, Refusal>, u64, &str)],
+    rows: &[Row],
 ) -> Result<(), Fail> {
     for (line, answer, runs, pieces) in rows {
         let before = pages.steps().count();
-        let result = changed(pages, *line);
-        assert_eq!(rt; result, *answer, "{line:?}");
-        assert_eq!(rt;
-            pages.steps().count().checked_sub(before),
-            Some(*runs),
-            "{line:?}"
-        );
+        assert_eq!(rt; changed(pages, *line), *answer, "{line:?}");
+        let started = pages.steps().count().checked_sub(before);
+        assert_eq!(rt; started, Some(*runs), "{line:?}");
+        assert_eq!(rt; pages.len(), pieces.len() as u64, "{line:?}");
         let all = shown(rt.alloc(), pages)?;
         assert_eq!(rt; all.as_slice(), pieces.as_bytes(), "{line:?}");
-        assert_eq!(rt; pages.len(), pieces.len() as u64, "{line:?}");
     }
     Ok(())
 }
 
-fn sums(alloc: Global) -> Sums {
-    Sums { alloc, count: 0 }
+// The edits in turn: each with the pieces that it changes, and how often a step was started up to its end.
+fn check_starts<S: Steps>(
+    rt: &(impl Abort + AllocGlobal),
+    pages: &mut Pages<S>,
+    rows: &[(Edit, Changed, u64)],
+) {
+    for (line, change, count) in rows {
+        assert_eq!(rt; changed(pages, *line), Ok(*change), "{line:?}");
+        assert_eq!(rt; pages.steps().count(), *count, "{line:?}");
+    }
 }
 
-fn digits(alloc: Global) -> Digits {
-    Digits { alloc, count: 0 }
+// The piece has this output, these errors, this last output, and is a failure or not.
+fn check_piece(
+    rt: &(impl Abort + AllocGlobal),
+    piece: Option<&Piece>,
+    (out, err): (&[u8], &[u8]),
+    (last, failed): (Last, bool),
+) -> Result<(), Fail> {
+    let Some(piece) = piece else {
+        return Err("no piece")?;
+    };
+    assert_eq!(rt; piece.out.as_slice(), out);
+    assert_eq!(rt; piece.err.as_slice(), err);
+    assert!(rt; piece.last == last && piece.failed == failed);
+    Ok(())
 }
 
-fn largest(alloc: Global) -> Largest {
-    Largest { alloc, count: 0 }
+fn check_written<S: Steps>(
+    rt: &(impl Abort + AllocGlobal),
+    pages: &Pages<S>,
+    all: &[u8],
+) -> Result<(), Fail> {
+    assert_eq!(rt; written(rt.alloc(), pages)?.as_slice(), all);
+    Ok(())
 }
+
+static SUMS: [Row; 8] = [
+    (Edit::Replace(1, 5), Ok((0, 3, 3, true)), 3, "169"),
+    (Edit::Insert(0, 4), Ok((0, 3, 4, true)), 4, "4503"),
+    (Edit::Remove(3), Ok((0, 4, 3, true)), 3, "450"),
+    (Edit::Insert(9, 1), Err(Refusal::NoPlace), 0, "450"),
+    (Edit::Replace(3, 1), Err(Refusal::NoPlace), 0, "450"),
+    (Edit::Remove(3), Err(Refusal::NoPlace), 0, "450"),
+    (Edit::Insert(3, -7), Ok((0, 3, 4, false)), 4, "4500"),
+    (Edit::Replace(0, 4), Ok((0, 4, 4, false)), 4, "4500"),
+];
 
 #[test]
 fn sums_of_three(rt: HostRuntime) -> Result<(), Fail> {
     let alloc = rt.alloc();
-    let mut pages = start(alloc, sums(alloc), numbers(alloc, &[1, 2, 3])?)?;
+    let mut pages: Pages<Sums> = over(alloc, &[1, 2, 3])?;
     assert_eq!(&rt; pages.steps().count(), 3);
     assert_eq!(&rt; shown(alloc, &pages)?.as_slice(), b"136".as_slice());
-    check(
-        &rt,
-        &mut pages,
-        &[
-            (Edit::Replace(1, 5), Ok(change(0, 3, 3, true)), 3, "169"),
-            (Edit::Insert(0, 4), Ok(change(0, 3, 4, true)), 4, "4503"),
-            (Edit::Remove(3), Ok(change(0, 4, 3, true)), 3, "450"),
-            (Edit::Insert(9, 1), Err(Refusal::NoPlace), 0, "450"),
-            (Edit::Replace(3, 1), Err(Refusal::NoPlace), 0, "450"),
-            (Edit::Remove(3), Err(Refusal::NoPlace), 0, "450"),
-            (Edit::Insert(3, -7), Ok(change(0, 3, 4, false)), 4, "4500"),
-            (Edit::Replace(0, 4), Ok(change(0, 4, 4, false)), 4, "4500"),
-        ],
-    )
+    check(&rt, &mut pages, &SUMS)
 }
+
+static DIGITS: [Row; 6] = [
+    (Edit::Replace(1, 5), Ok((1, 1, 1, false)), 1, "153"),
+    (Edit::Insert(0, 4), Ok((0, 0, 1, false)), 1, "4153"),
+    (Edit::Insert(4, 8), Ok((4, 0, 1, false)), 1, "41538"),
+    (Edit::Remove(3), Ok((3, 1, 0, false)), 0, "4158"),
+    (Edit::Insert(5, 1), Err(Refusal::NoPlace), 0, "4158"),
+    (Edit::Replace(4, 1), Err(Refusal::NoPlace), 0, "4158"),
+];
 
 #[test]
 fn digits_of_three(rt: HostRuntime) -> Result<(), Fail> {
     let alloc = rt.alloc();
-    let mut pages = start(alloc, digits(alloc), numbers(alloc, &[1, 2, 3])?)?;
-    check(
-        &rt,
-        &mut pages,
-        &[
-            (Edit::Replace(1, 5), Ok(change(1, 1, 1, false)), 1, "153"),
-            (Edit::Insert(0, 4), Ok(change(0, 0, 1, false)), 1, "4153"),
-            (Edit::Insert(4, 8), Ok(change(4, 0, 1, false)), 1, "41538"),
-            (Edit::Remove(3), Ok(change(3, 1, 0, false)), 0, "4158"),
-            (Edit::Insert(5, 1), Err(Refusal::NoPlace), 0, "4158"),
-            (Edit::Replace(4, 1), Err(Refusal::NoPlace), 0, "4158"),
-        ],
-    )
+    let mut pages: Pages<Digits> = over(alloc, &[1, 2, 3])?;
+    check(&rt, &mut pages, &DIGITS)
 }
+
+static FIRST_OF_LARGEST: [Row; 1] = [(Edit::Replace(1, 5), Ok((0, 3, 3, true)), 4, "155")];
+
+static REST_OF_LARGEST: [Row; 3] = [
+    (Edit::Insert(0, 4), Ok((0, 3, 4, false)), 4, "4455"),
+    (Edit::Remove(2), Ok((0, 4, 3, true)), 4, "444"),
+    (Edit::Remove(3), Err(Refusal::NoPlace), 0, "444"),
+];
 
 #[test]
 fn largest_of_three(rt: HostRuntime) -> Result<(), Fail> {
     let alloc = rt.alloc();
-    let mut pages = start(alloc, largest(alloc), numbers(alloc, &[1, 2, 3])?)?;
+    let mut pages: Pages<Largest> = over(alloc, &[1, 2, 3])?;
     assert_eq!(&rt; pages.steps().count(), 5);
-    assert_eq!(&rt; written(alloc, &pages)?.as_slice(), b"[1233".as_slice());
-    check(
-        &rt,
-        &mut pages,
-        &[(Edit::Replace(1, 5), Ok(change(0, 3, 3, true)), 4, "155")],
-    )?;
-    assert_eq!(&rt; written(alloc, &pages)?.as_slice(), b"[1555".as_slice());
-    check(
-        &rt,
-        &mut pages,
-        &[
-            (Edit::Insert(0, 4), Ok(change(0, 3, 4, false)), 4, "4455"),
-            (Edit::Remove(2), Ok(change(0, 4, 3, true)), 4, "444"),
-            (Edit::Remove(3), Err(Refusal::NoPlace), 0, "444"),
-        ],
-    )?;
-    assert_eq!(&rt; pages.head().out.as_slice(), b"[".as_slice());
-    assert!(&rt; pages.head().last == Last::Falsy && pages.tail().last == Last::Truthy);
-    assert_eq!(&rt; pages.tail().out.as_slice(), b"4".as_slice());
-    Ok(())
+    check_written(&rt, &pages, b"[1233")?;
+    check(&rt, &mut pages, &FIRST_OF_LARGEST)?;
+    check_written(&rt, &pages, b"[1555")?;
+    check(&rt, &mut pages, &REST_OF_LARGEST)?;
+    check_piece(&rt, Some(pages.head()), (b"[", b""), (Last::Falsy, false))?;
+    check_piece(&rt, Some(pages.tail()), (b"4", b""), (Last::Truthy, false))
 }
 
 // A negative number fails, and leaves the state as it was.
 #[test]
 fn failed_pieces(rt: HostRuntime) -> Result<(), Fail> {
     let alloc = rt.alloc();
-    let mut pages = start(alloc, largest(alloc), numbers(alloc, &[1, -2, 3])?)?;
-    let Some(piece) = pages.piece(1) else {
-        return Err("no piece")?;
-    };
-    assert_eq!(&rt; piece.err.as_slice(), b"!\n".as_slice());
-    assert!(&rt; piece.out.is_empty() && piece.last == Last::Nothing && piece.failed);
-    assert_eq!(&rt;
-        changed(&mut pages, Edit::Replace(1, 2)),
-        Ok(change(0, 3, 3, false))
-    );
-    let Some(piece) = pages.piece(1) else {
-        return Err("no piece")?;
-    };
-    assert_eq!(&rt; piece.out.as_slice(), b"2".as_slice());
-    assert!(&rt; piece.err.is_empty() && piece.last == Last::Truthy && !piece.failed);
-    assert_eq!(&rt;
-        changed(&mut pages, Edit::Replace(2, -1)),
-        Ok(change(0, 3, 3, true))
-    );
-    assert_eq!(&rt; written(alloc, &pages)?.as_slice(), b"[122".as_slice());
-    Ok(())
+    let mut pages: Pages<Largest> = over(alloc, &[1, -2, 3])?;
+    check_piece(&rt, pages.piece(1), (b"", b"!\n"), (Last::Nothing, true))?;
+    let change = changed(&mut pages, Edit::Replace(1, 2))?;
+    assert_eq!(&rt; change, (0, 3, 3, false));
+    check_piece(&rt, pages.piece(1), (b"2", b""), (Last::Truthy, false))?;
+    let change = changed(&mut pages, Edit::Replace(2, -1))?;
+    assert_eq!(&rt; change, (0, 3, 3, true));
+    check_written(&rt, &pages, b"[122")
 }
 
 #[test]
 fn pieces_by_number(rt: HostRuntime) -> Result<(), Fail> {
     let alloc = rt.alloc();
-    let pages = start(alloc, sums(alloc), numbers(alloc, &[1, 2])?)?;
+    let pages: Pages<Sums> = over(alloc, &[1, 2])?;
     assert!(&rt; pages.head().out.is_empty() && pages.tail().out.is_empty());
-    let Some(piece) = pages.piece(1) else {
-        return Err("no piece")?;
-    };
-    assert_eq!(&rt; piece.out.as_slice(), b"3".as_slice());
-    assert!(&rt; piece.err.is_empty() && piece.last == Last::Truthy && !piece.failed);
+    check_piece(&rt, pages.piece(1), (b"3", b""), (Last::Truthy, false))?;
     assert!(&rt; pages.piece(2).is_none());
     assert_eq!(&rt; pages.into_steps().count, 2);
     Ok(())
 }
 
+// The second page is full at first, and the next one has room before its first input.
+static AROUND_SECOND: [(Edit, Changed, u64); 5] = [
+    (Edit::Insert(112, 0), (112, 48, 49, false), 2001),
+    (Edit::Insert(60, 0), (48, 32, 33, false), 2066),
+    (Edit::Replace(990, 2), (978, 40, 40, true), 2106),
+    (Edit::Replace(990, 1), (978, 40, 40, true), 2146),
+    (Edit::Replace(0, 2), (0, 1018, 1018, true), 3164),
+];
+
 // An edit stops at the first page whose state is the one that it had.
 #[test]
 fn stops_where_the_states_meet(rt: HostRuntime) -> Result<(), Fail> {
     let alloc = rt.alloc();
-    let mut pages = start(alloc, sums(alloc), ones(alloc, 1000)?)?;
-    assert_eq!(&rt;
-        changed(&mut pages, Edit::Replace(70, 1)),
-        Ok(change(48, 48, 48, false))
-    );
-    assert_eq!(&rt; pages.steps().count(), 1048);
-    fill_second(&rt, &mut pages)?;
+    let mut pages = start(alloc, Sums::sample(alloc), ones(alloc, 1000)?)?;
+    let second = (Edit::Replace(70, 1), (48, 48, 48, false), 1048);
+    check_starts(&rt, &mut pages, &[second]);
+    fill_second(&rt, &mut pages);
     assert_eq!(&rt; pages.steps().count(), 1952);
-    // The second page is full, and the next one has room before its first input.
-    assert_eq!(&rt;
-        changed(&mut pages, Edit::Insert(112, 0)),
-        Ok(change(112, 48, 49, false))
-    );
-    assert_eq!(&rt; pages.steps().count(), 2001);
-    assert_eq!(&rt;
-        changed(&mut pages, Edit::Insert(60, 0)),
-        Ok(change(48, 32, 33, false))
-    );
-    assert_eq!(&rt; pages.steps().count(), 2066);
-    assert_eq!(&rt;
-        changed(&mut pages, Edit::Replace(990, 2)),
-        Ok(change(978, 40, 40, true))
-    );
-    assert_eq!(&rt; pages.steps().count(), 2106);
-    assert_eq!(&rt;
-        changed(&mut pages, Edit::Replace(990, 1)),
-        Ok(change(978, 40, 40, true))
-    );
-    assert_eq!(&rt;
-        changed(&mut pages, Edit::Replace(0, 2)),
-        Ok(change(0, 1018, 1018, true))
-    );
+    check_starts(&rt, &mut pages, &AROUND_SECOND);
     Ok(())
 }
 
 // A start leaves room in each page: 16 insertions into the second one run it alone, and divide no page.
-fn fill_second<S: Steps>(
-    rt: &(impl Abort + AllocGlobal),
-    pages: &mut Pages<S>,
-) -> Result<(), Fail> {
+fn fill_second<S: Steps>(rt: &(impl Abort + AllocGlobal), pages: &mut Pages<S>) {
     let count = pages.page_count();
     for i in 0..16u64 {
-        let size = 48 + i;
-        assert_eq!(rt;
-            changed(pages, Edit::Insert(64, 0)),
-            Ok(change(48, size, size + 1, false)),
-            "{i}"
-        );
+        let want = (48, 48 + i, 49 + i, false);
+        assert_eq!(rt; changed(pages, Edit::Insert(64, 0)), Ok(want), "{i}");
     }
     assert_eq!(rt; pages.page_count(), count);
-    Ok(())
 }
 
 // 3 at all numbers, but 9 at one.
@@ -223,34 +196,23 @@ fn threes(alloc: Global, count: usize, nine: usize) -> Result<Vec<Val>, NoMemory
 #[test]
 fn stops_at_a_later_page(rt: HostRuntime) -> Result<(), Fail> {
     let alloc = rt.alloc();
-    let mut pages = start(alloc, largest(alloc), threes(alloc, 1000, 200)?)?;
+    let mut pages = start(alloc, Largest::sample(alloc), threes(alloc, 1000, 200)?)?;
     assert_eq!(&rt; pages.steps().count(), 1002);
-    assert_eq!(&rt;
-        changed(&mut pages, Edit::Replace(0, 5)),
-        Ok(change(0, 240, 240, false))
-    );
-    assert_eq!(&rt; pages.steps().count(), 1242);
-    assert_eq!(&rt;
-        changed(&mut pages, Edit::Replace(990, 4)),
-        Ok(change(960, 40, 40, false))
-    );
-    assert_eq!(&rt; pages.steps().count(), 1282);
+    let early = (Edit::Replace(0, 5), (0, 240, 240, false), 1242);
+    let late = (Edit::Replace(990, 4), (960, 40, 40, false), 1282);
+    check_starts(&rt, &mut pages, &[early, late]);
     assert_eq!(&rt; pages.tail().out.as_slice(), b"9".as_slice());
-    assert_eq!(&rt;
-        changed(&mut pages, Edit::Replace(200, 8)),
-        Ok(change(192, 808, 808, true))
-    );
-    assert_eq!(&rt; pages.steps().count(), 2091);
+    let largest = (Edit::Replace(200, 8), (192, 808, 808, true), 2091);
+    check_starts(&rt, &mut pages, &[largest]);
     assert_eq!(&rt; pages.tail().out.as_slice(), b"8".as_slice());
     Ok(())
 }
 
 // What a start over these numbers writes.
 fn fresh(alloc: Global, fold: Fold, values: &[i64]) -> Result<Vec<u8>, Refusal> {
-    let inputs = numbers(alloc, values)?;
     Ok(match fold {
-        Fold::Sums => written(alloc, &start(alloc, sums(alloc), inputs)?)?,
-        Fold::Largest => written(alloc, &start(alloc, largest(alloc), inputs)?)?,
+        Fold::Sums => written(alloc, &over::<Sums>(alloc, values)?)?,
+        Fold::Largest => written(alloc, &over::<Largest>(alloc, values)?)?,
     })
 }
 
@@ -269,63 +231,78 @@ fn agrees<S: Steps>(
             .wrapping_mul(6364136223846793005)
             .wrapping_add(1442695040888963407);
         let line = next_edit(seed, &values, round > 400 && round < 840);
-        let count = pages.steps().count();
-        let old_states = states(alloc, fold, &values)?;
-        let old = shown(alloc, pages)?;
-        let change = changed(pages, line)?;
+        let before = states(alloc, fold, &values)?;
         edit_values(&mut values, line)?;
-        let new_states = states(alloc, fold, &values)?;
-        let new = shown(alloc, pages)?;
-        let rebuilt = applied(alloc, &old, &new, change)?;
-        assert_eq!(rt; rebuilt.as_slice(), new.as_slice(), "{round}");
-        let runs = pages.steps().count().wrapping_sub(count);
-        let meeting = least_meeting(&old_states, &new_states, line);
-        assert!(rt; is_within(change, line, meeting, runs), "{round}");
-        assert!(rt;
-            !change.closed || change.from.wrapping_add(change.put) == pages.len(),
-            "{round}"
-        );
-        let all = written(alloc, pages)?;
-        assert_eq!(rt;
-            all.as_slice(),
-            fresh(alloc, fold, &values)?.as_slice(),
-            "{round}"
-        );
-        assert_eq!(rt;
-            inputs_of(alloc, pages)?.as_slice(),
-            values.as_slice(),
-            "{round}"
-        );
+        let after = states(alloc, fold, &values)?;
+        check_edit(rt, pages, line, least_meeting(&before, &after, line))?;
+        assert!(rt; is_fresh(alloc, fold, pages, &values)?, "{round}");
     }
     Ok(())
+}
+
+fn check_edit<S: Steps>(
+    rt: &(impl Abort + AllocGlobal),
+    pages: &mut Pages<S>,
+    line: Edit,
+    meeting: u64,
+) -> Result<(), Fail> {
+    let count = pages.steps().count();
+    let old = shown(rt.alloc(), pages)?;
+    let change = make_edit(pages, line)?.change;
+    let runs = pages.steps().count().wrapping_sub(count);
+    assert!(rt; is_within(change, line, meeting, runs), "{line:?}");
+    assert!(rt; rebuilds(rt.alloc(), pages, &old, change)?, "{line:?}");
+    Ok(())
+}
+
+// Whether the pieces after a change are those before it, but for what it cuts and puts in, which reaches the end if it is closed.
+fn rebuilds<S: Steps>(
+    alloc: Global,
+    pages: &Pages<S>,
+    old: &[u8],
+    change: Change,
+) -> Result<bool, NoMemory> {
+    let new = shown(alloc, pages)?;
+    let rebuilt = applied(alloc, old, &new, change)?;
+    let ends = !change.closed || change.from.wrapping_add(change.put) == pages.len();
+    Ok(ends && rebuilt.as_slice() == new.as_slice())
+}
+
+// Whether the pages have these inputs, and wrote what a start over them writes.
+fn is_fresh<S: Steps>(
+    alloc: Global,
+    fold: Fold,
+    pages: &Pages<S>,
+    values: &[i64],
+) -> Result<bool, Refusal> {
+    let (all, inputs) = (written(alloc, pages)?, inputs_of(alloc, pages)?);
+    let wanted = fresh(alloc, fold, values)?;
+    Ok(all.as_slice() == wanted.as_slice() && inputs.as_slice() == values)
 }
 
 #[test]
 fn sums_agree_with_a_start(rt: HostRuntime) -> Result<(), Fail> {
     let alloc = rt.alloc();
-    let mut pages = start(alloc, sums(alloc), Vec::new(alloc))?;
+    let mut pages: Pages<Sums> = over(alloc, &[])?;
     agrees(&rt, Fold::Sums, &mut pages)
 }
 
 #[test]
 fn largest_agrees_with_a_start(rt: HostRuntime) -> Result<(), Fail> {
     let alloc = rt.alloc();
-    let mut pages = start(alloc, largest(alloc), Vec::new(alloc))?;
+    let mut pages: Pages<Largest> = over(alloc, &[])?;
     agrees(&rt, Fold::Largest, &mut pages)
 }
+
+static FIRST: [Row; 1] = [(Edit::Insert(0, 7), Ok((0, 0, 1, true)), 1, "7")];
 
 #[test]
 fn removes_all(rt: HostRuntime) -> Result<(), Fail> {
     let alloc = rt.alloc();
-    let mut pages = start(alloc, sums(alloc), ones(alloc, 130)?)?;
+    let mut pages = start(alloc, Sums::sample(alloc), ones(alloc, 130)?)?;
     for _ in 0..130 {
         let _change = changed(&mut pages, Edit::Remove(0))?;
     }
     assert_eq!(&rt; pages.len(), 0);
-    assert_eq!(&rt;
-        changed(&mut pages, Edit::Insert(0, 7)),
-        Ok(change(0, 0, 1, true))
-    );
-    assert_eq!(&rt; shown(alloc, &pages)?.as_slice(), b"7".as_slice());
-    Ok(())
+    check(&rt, &mut pages, &FIRST)
 }

@@ -1,9 +1,10 @@
 // Hundreds of pages: where an edit finds its page, and the totals, by sums over groups of pages.
 use crate::bounds::edit_values;
+use crate::clients::is_same;
 use crate::samples::{Digits, Largest};
-use crate::shown::{Edit, changed, numbers, shown, start};
+use crate::shown::{Edit, Sample, changed, over};
 use jq_pages::{Pages, Refusal, Steps};
-use jv_data::{NoMemory, Val};
+use jv_data::NoMemory;
 use std::alloc::Global;
 use std::process::Abort;
 use std::test::Fail;
@@ -31,27 +32,9 @@ fn repeat<S: Steps>(
     Ok(())
 }
 
-// The pages say of their inputs what those of a start over the same inputs say.
-fn compare<S: Steps>(
-    rt: &(impl Abort + AllocGlobal),
-    pages: &Pages<S>,
-    fresh: &Pages<S>,
-    line: Edit,
-) -> Result<(), Fail> {
-    let alloc = rt.alloc();
-    assert_eq!(rt; pages.len(), fresh.len(), "{line:?}");
-    assert_eq!(rt; pages.totals(), fresh.totals(), "{line:?}");
-    assert_eq!(rt;
-        shown(alloc, pages)?.as_slice(),
-        shown(alloc, fresh)?.as_slice(),
-        "{line:?}"
-    );
-    Ok(())
-}
-
 // Edits in the first, the second and the last group, at their ends, and after the last group; some open, divide, remove and join
 // pages. A number from 100 on halts, and a negative one writes nothing or fails.
-const LINES: [(Edit, u64); 14] = [
+static LINES: [(Edit, u64); 14] = [
     (Edit::Replace(0, -1), 1),
     (Edit::Replace(6_143, 7), 1),
     (Edit::Replace(6_144, -2), 1),
@@ -68,30 +51,31 @@ const LINES: [(Edit, u64); 14] = [
     (Edit::Replace(19_700, -9), 1),
 ];
 
-#[test]
-fn digits_in_groups(rt: HostRuntime) -> Result<(), Fail> {
-    let alloc = rt.alloc();
-    let mut values = counting(alloc, 20_000)?;
-    let mut pages = start(alloc, Digits { alloc, count: 0 }, numbers(alloc, &values)?)?;
+fn check<S: Sample>(
+    rt: &(impl Abort + AllocGlobal),
+    pages: &mut Pages<S>,
+    values: &mut Vec<i64>,
+) -> Result<(), Fail> {
     for (line, times) in &LINES {
-        repeat(&mut pages, &mut values, *line, *times)?;
-        let fresh = start(alloc, Digits { alloc, count: 0 }, numbers(alloc, &values)?)?;
-        compare(&rt, &pages, &fresh, *line)?;
+        repeat(pages, values, *line, *times)?;
+        let fresh: Pages<S> = over(rt.alloc(), values)?;
+        assert!(rt; is_same(rt.alloc(), pages, &fresh)?, "{line:?}");
     }
     Ok(())
 }
 
 #[test]
+fn digits_in_groups(rt: HostRuntime) -> Result<(), Fail> {
+    let mut values = counting(rt.alloc(), 20_000)?;
+    let mut pages: Pages<Digits> = over(rt.alloc(), &values)?;
+    check(&rt, &mut pages, &mut values)
+}
+
+#[test]
 fn largest_in_groups(rt: HostRuntime) -> Result<(), Fail> {
-    let alloc = rt.alloc();
-    let mut values = counting(alloc, 20_000)?;
-    let mut pages = start(alloc, Largest { alloc, count: 0 }, numbers(alloc, &values)?)?;
-    for (line, times) in &LINES {
-        repeat(&mut pages, &mut values, *line, *times)?;
-        let fresh = start(alloc, Largest { alloc, count: 0 }, numbers(alloc, &values)?)?;
-        compare(&rt, &pages, &fresh, *line)?;
-    }
-    Ok(())
+    let mut values = counting(rt.alloc(), 20_000)?;
+    let mut pages: Pages<Largest> = over(rt.alloc(), &values)?;
+    check(&rt, &mut pages, &mut values)
 }
 
 // Many removals leave small pages, which are joined.
@@ -99,17 +83,22 @@ fn largest_in_groups(rt: HostRuntime) -> Result<(), Fail> {
 fn small_pages_are_joined(rt: HostRuntime) -> Result<(), Fail> {
     let alloc = rt.alloc();
     let mut values = counting(alloc, 6_400)?;
-    let mut pages = start(alloc, Digits { alloc, count: 0 }, numbers(alloc, &values)?)?;
+    let mut pages: Pages<Digits> = over(alloc, &values)?;
     assert_eq!(&rt; pages.page_count(), 134);
-    // 63 of 64 inputs are removed, from the last to the first.
+    remove_most(&mut pages, &mut values)?;
+    assert_eq!(&rt; pages.len(), 100);
+    assert!(&rt; pages.page_count() <= 6);
+    assert!(&rt; is_same(alloc, &pages, &over(alloc, &values)?)?);
+    Ok(())
+}
+
+// 63 of 64 inputs are removed, from the last to the first.
+fn remove_most<S: Steps>(pages: &mut Pages<S>, values: &mut Vec<i64>) -> Result<(), Refusal> {
     for i in 0..6_400u64 {
         let k = 6_399u64.wrapping_sub(i);
         if k % 64 != 0 {
-            repeat(&mut pages, &mut values, Edit::Remove(k), 1)?;
+            repeat(pages, values, Edit::Remove(k), 1)?;
         }
     }
-    assert_eq!(&rt; pages.len(), 100);
-    assert!(&rt; pages.page_count() <= 6);
-    let fresh = start(alloc, Digits { alloc, count: 0 }, numbers(alloc, &values)?)?;
-    compare(&rt, &pages, &fresh, Edit::Remove(0))
+    Ok(())
 }

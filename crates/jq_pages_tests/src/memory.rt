@@ -1,7 +1,7 @@
 // Edits that find no memory: `tests/growth.py` refuses each of their allocations, and an edit that is refused is made again.
 use crate::samples::{Digits, Largest, Sums};
 use crate::shown::{Edit, make_edit, ones, start};
-use jq_pages::{Last, Pages, Piece, Refusal, Steps};
+use jq_pages::{Edited, Last, Pages, Piece, Refusal, Steps, Totals};
 use jv_data::{NoMemory, Val};
 use std::alloc::Global;
 use std::process::Abort;
@@ -72,6 +72,28 @@ fn digest<S: Steps>(pages: &Pages<S>) -> (u64, u64) {
     (pages.len(), mix_piece(sum, pages.tail()))
 }
 
+// What an edit that is refused leaves as it is, and how often a step was started.
+#[derive(Clone, Copy)]
+struct Before {
+    pieces: (u64, u64),
+    totals: Totals,
+    count: u64,
+}
+
+fn state_of<S: Steps>(pages: &Pages<S>) -> Before {
+    Before {
+        pieces: digest(pages),
+        totals: pages.totals(),
+        count: pages.steps().count(),
+    }
+}
+
+// Whether the pages are as they were, and started so many steps at most.
+fn is_kept<S: Steps>(pages: &Pages<S>, before: Before, most: u64) -> bool {
+    let runs = pages.steps().count().wrapping_sub(before.count);
+    digest(pages) == before.pieces && pages.totals() == before.totals && runs <= most
+}
+
 // How often an edit may start a step, if it is refused for lack of memory.
 fn most_starts<S: Steps>(pages: &Pages<S>, line: Edit) -> u64 {
     let (place, added) = match line {
@@ -88,29 +110,34 @@ fn most_starts<S: Steps>(pages: &Pages<S>, line: Edit) -> u64 {
         .wrapping_add(129)
 }
 
-// Makes each edit, and where it finds no memory, sees that nothing changed and makes it again.
+// Makes an edit, and where it finds no memory, sees that nothing changed and makes it again.
+fn edit_again<S: Steps>(
+    rt: &impl Abort,
+    pages: &mut Pages<S>,
+    line: Edit,
+    before: Before,
+) -> Result<Edited, Refusal> {
+    let most = most_starts(pages, line);
+    match make_edit(pages, line) {
+        Ok(edited) => Ok(edited),
+        Err(refusal) => {
+            assert_eq!(rt; refusal, Refusal::NoMemory, "{line:?}");
+            assert!(rt; is_kept(pages, before, most), "{line:?}");
+            make_edit(pages, line)
+        }
+    }
+}
+
+// Makes each edit.
 fn make_all<S: Steps>(
     rt: &impl Abort,
     pages: &mut Pages<S>,
     lines: &[Edit],
 ) -> Result<(), Refusal> {
     for line in lines {
-        let before = digest(pages);
-        let totals = pages.totals();
-        let count = pages.steps().count();
-        let most = most_starts(pages, *line);
-        let edited = match make_edit(pages, *line) {
-            Ok(edited) => edited,
-            Err(refusal) => {
-                assert_eq!(rt; refusal, Refusal::NoMemory, "{line:?}");
-                assert_eq!(rt; digest(pages), before, "{line:?}");
-                assert_eq!(rt; pages.totals(), totals, "{line:?}");
-                let runs = pages.steps().count().wrapping_sub(count);
-                assert!(rt; runs <= most, "{line:?}");
-                make_edit(pages, *line)?
-            }
-        };
-        let rest = totals.out.wrapping_sub(edited.out.cut);
+        let before = state_of(pages);
+        let edited = edit_again(rt, pages, *line, before)?;
+        let rest = before.totals.out.wrapping_sub(edited.out.cut);
         let out = rest.wrapping_add(edited.out.put.len() as u128);
         assert_eq!(rt; pages.totals().out, out, "{line:?}");
     }
@@ -118,7 +145,7 @@ fn make_all<S: Steps>(
 }
 
 // They fill the first page, so that a later insertion divides it.
-const FIRST: [Edit; 16] = [Edit::Insert(5, 1); 16];
+static FIRST: [Edit; 16] = [Edit::Insert(5, 1); 16];
 
 // How often a move may start a step, if it is refused for lack of memory.
 fn most_moves<S: Steps>(pages: &Pages<S>, k: u64, l: u64) -> u64 {
@@ -140,16 +167,11 @@ fn move_all<S: Steps>(
     moves: &[(u64, u64)],
 ) -> Result<(), Refusal> {
     for (k, l) in moves {
-        let before = digest(pages);
-        let totals = pages.totals();
-        let count = pages.steps().count();
+        let before = state_of(pages);
         let most = most_moves(pages, *k, *l);
         if let Err(refusal) = pages.shift(*k, *l) {
             assert_eq!(rt; refusal, Refusal::NoMemory, "{k} {l}");
-            assert_eq!(rt; digest(pages), before, "{k} {l}");
-            assert_eq!(rt; pages.totals(), totals, "{k} {l}");
-            let runs = pages.steps().count().wrapping_sub(count);
-            assert!(rt; runs <= most, "{k} {l}");
+            assert!(rt; is_kept(pages, before, most), "{k} {l}");
             let _edits = pages.shift(*k, *l)?;
         }
     }
@@ -157,7 +179,7 @@ fn move_all<S: Steps>(
 }
 
 // Moves, of which each second one undoes the one before it: within a page, to later and to earlier pages, and to the ends.
-const MOVES: [(u64, u64); 8] = [
+static MOVES: [(u64, u64); 8] = [
     (3, 20),
     (20, 3),
     (2, 120),
@@ -168,7 +190,7 @@ const MOVES: [(u64, u64); 8] = [
     (132, 0),
 ];
 
-const LINES: [Edit; 8] = [
+static LINES: [Edit; 8] = [
     Edit::Replace(1, 5),
     Edit::Insert(0, 4),
     Edit::Insert(40, 3),
@@ -178,6 +200,20 @@ const LINES: [Edit; 8] = [
     Edit::Replace(131, 9),
     Edit::Replace(50, -3),
 ];
+
+// Makes the edits, after which there are 133 inputs and all pieces are this number, and then the moves, after which they are so again.
+fn change_all<S: Steps>(
+    rt: &(impl Abort + AllocGlobal),
+    pages: &mut Pages<S>,
+    want: u64,
+) -> Result<(), Fail> {
+    make_all(rt, pages, &FIRST)?;
+    make_all(rt, pages, &LINES)?;
+    assert_eq!(rt; digest(pages), (133, want));
+    move_all(rt, pages, &MOVES)?;
+    assert_eq!(rt; digest(pages), (133, want));
+    Ok(())
+}
 
 // The input of this number after these edits of 130 inputs 1; none for the negative number.
 fn value_after(i: u64) -> Option<u64> {
@@ -196,26 +232,19 @@ fn value_after(i: u64) -> Option<u64> {
 fn sums_again(rt: HostRuntime) -> Result<(), Fail> {
     let alloc = rt.alloc();
     let mut pages = start_again(alloc, Sums { alloc, count: 0 }, 114)?;
-    make_all(&rt, &mut pages, &FIRST)?;
-    make_all(&rt, &mut pages, &LINES)?;
     let mut sum: u64 = 0;
     let mut want = mix_silence(0);
     for i in 0..133u64 {
         sum = sum.wrapping_add(value_after(i).unwrap_or(0));
         want = mix_digit(want, sum);
     }
-    assert_eq!(&rt; digest(&pages), (133, mix_silence(want)));
-    move_all(&rt, &mut pages, &MOVES)?;
-    assert_eq!(&rt; digest(&pages), (133, mix_silence(want)));
-    Ok(())
+    change_all(&rt, &mut pages, mix_silence(want))
 }
 
 #[test]
 fn digits_again(rt: HostRuntime) -> Result<(), Fail> {
     let alloc = rt.alloc();
     let mut pages = start_again(alloc, Digits { alloc, count: 0 }, 114)?;
-    make_all(&rt, &mut pages, &FIRST)?;
-    make_all(&rt, &mut pages, &LINES)?;
     let mut want = mix_silence(0);
     for i in 0..133u64 {
         want = match value_after(i) {
@@ -223,18 +252,13 @@ fn digits_again(rt: HostRuntime) -> Result<(), Fail> {
             None => mix_silence(want),
         };
     }
-    assert_eq!(&rt; digest(&pages), (133, mix_silence(want)));
-    move_all(&rt, &mut pages, &MOVES)?;
-    assert_eq!(&rt; digest(&pages), (133, mix_silence(want)));
-    Ok(())
+    change_all(&rt, &mut pages, mix_silence(want))
 }
 
 #[test]
 fn largest_again(rt: HostRuntime) -> Result<(), Fail> {
     let alloc = rt.alloc();
     let mut pages = start_again(alloc, Largest { alloc, count: 0 }, 114)?;
-    make_all(&rt, &mut pages, &FIRST)?;
-    make_all(&rt, &mut pages, &LINES)?;
     let mut most: u64 = 0;
     let mut want = mix_fields(0, b"[", b"", Last::Falsy, false);
     for i in 0..133u64 {
@@ -246,8 +270,5 @@ fn largest_again(rt: HostRuntime) -> Result<(), Fail> {
             None => mix_fields(want, b"", b"!\n", Last::Nothing, true),
         };
     }
-    assert_eq!(&rt; digest(&pages), (133, mix_digit(want, most)));
-    move_all(&rt, &mut pages, &MOVES)?;
-    assert_eq!(&rt; digest(&pages), (133, mix_digit(want, most)));
-    Ok(())
+    change_all(&rt, &mut pages, mix_digit(want, most))
 }

@@ -1,9 +1,9 @@
 // Moves of inputs. Each is compared with a start over the inputs after it, and a client applies the splices of both halves.
 use crate::bounds::{Fold, least_meeting, states};
-use crate::clients::{client_of, follow};
+use crate::clients::{Client, client_of, follow, is_current, is_same};
 use crate::samples::{Digits, Largest, Sums};
-use crate::shown::{Edit, complained, inputs_of, numbers, start, written};
-use jq_pages::{Pages, Refusal, Steps};
+use crate::shown::{Edit, Sample, inputs_of, over};
+use jq_pages::{Moved, Pages, Refusal, Steps};
 use jv_data::NoMemory;
 use std::alloc::Global;
 use std::process::Abort;
@@ -68,63 +68,54 @@ fn make_move<S: Steps>(
         return Err("no input")?;
     };
     let want = with_one(alloc, &without(alloc, &old, k)?, l, *one)?;
-    let client = client_of(alloc, pages)?;
-    let count = pages.steps().count();
-    let moved = pages.shift(k, l)?;
-    let now = pages.steps().count();
-    assert!(rt; count <= moved.starts, "{k} {l}");
-    assert!(rt; moved.starts <= now, "{k} {l}");
-    let runs = now.wrapping_sub(count);
     let most = most_starts(alloc, fold, &old, &want, k, l)?;
-    assert!(rt; runs <= most, "{k} {l} {runs}");
-    let middle = follow(alloc, &client, &moved.removal)?;
-    assert_eq!(rt; moved.between.out, middle.out.len() as u128, "{k} {l}");
-    assert_eq!(rt; moved.between.err, middle.err.len() as u128, "{k} {l}");
-    let after = follow(alloc, &middle, &moved.insertion)?;
+    check_shift(rt, pages, (k, l), most)?;
     assert_eq!(rt;
-        after.out.as_slice(),
-        written(alloc, pages)?.as_slice(),
+        inputs_of(alloc, pages)?.as_slice(),
+        want.as_slice(),
         "{k} {l}"
     );
-    assert_eq!(rt;
-        after.err.as_slice(),
-        complained(alloc, pages)?.as_slice(),
-        "{k} {l}"
-    );
-    let now = inputs_of(alloc, pages)?;
-    assert_eq!(rt; now.as_slice(), want.as_slice(), "{k} {l}");
     Ok(want)
 }
 
-// The pages say what those of a start over the same inputs say.
-fn compare<S: Steps>(
+// Makes a move that starts at most so many steps, and follows it.
+fn check_shift<S: Steps>(
     rt: &(impl Abort + AllocGlobal),
-    pages: &Pages<S>,
-    fresh: &Pages<S>,
+    pages: &mut Pages<S>,
+    (k, l): (u64, u64),
+    most: u64,
 ) -> Result<(), Fail> {
-    let alloc = rt.alloc();
-    assert_eq!(rt; pages.len(), fresh.len());
-    assert_eq!(rt; pages.totals(), fresh.totals());
-    assert_eq!(rt;
-        written(alloc, pages)?.as_slice(),
-        written(alloc, fresh)?.as_slice()
-    );
-    assert_eq!(rt;
-        complained(alloc, pages)?.as_slice(),
-        complained(alloc, fresh)?.as_slice()
-    );
+    let client = client_of(rt.alloc(), pages)?;
+    let count = pages.steps().count();
+    let moved = pages.shift(k, l)?;
+    let now = pages.steps().count();
+    let runs = now.wrapping_sub(count);
+    assert!(rt; count <= moved.starts && moved.starts <= now, "{k} {l}");
+    assert!(rt; runs <= most, "{k} {l} {runs}");
+    assert!(rt; leads(rt.alloc(), &client, &moved, pages)?, "{k} {l}");
     Ok(())
 }
 
-// Each move of a short list, one after the other, and as many of a list of some pages.
+// Whether a client that follows the removal and the insertion has what the pieces write, and between them as many bytes as is said.
+fn leads<S: Steps>(
+    alloc: Global,
+    client: &Client,
+    moved: &Moved,
+    pages: &Pages<S>,
+) -> Result<bool, NoMemory> {
+    let middle = follow(alloc, client, &moved.removal)?;
+    let (out, err) = (middle.out.len() as u128, middle.err.len() as u128);
+    let is_counted = moved.between.out == out && moved.between.err == err;
+    let after = follow(alloc, &middle, &moved.insertion)?;
+    Ok(is_counted && is_current(alloc, &after, pages)?)
+}
+
 fn place_of(round: u64, count: u64) -> (u64, u64) {
     let seed = round
         .wrapping_mul(6364136223846793005)
         .wrapping_add(1442695040888963407);
     ((seed >> 20) % count.max(1), (seed >> 40) % count.max(1))
 }
-
-const FEW: [i64; 5] = [1, -2, 3, 130, 4];
 
 fn many(alloc: Global) -> Result<Vec<i64>, NoMemory> {
     let mut values = Vec::new(alloc);
@@ -134,92 +125,70 @@ fn many(alloc: Global) -> Result<Vec<i64>, NoMemory> {
     Ok(values)
 }
 
-#[test]
-fn moves_of_digits(rt: HostRuntime) -> Result<(), Fail> {
-    let alloc = rt.alloc();
-    let mut pages = start(alloc, Digits { alloc, count: 0 }, numbers(alloc, &FEW)?)?;
+// Makes a move, and compares the pages with a start over the numbers after it.
+fn check_move<S: Sample>(
+    rt: &(impl Abort + AllocGlobal),
+    fold: Option<Fold>,
+    pages: &mut Pages<S>,
+    (k, l): (u64, u64),
+) -> Result<(), Fail> {
+    let values = make_move(rt, fold, pages, k, l)?;
+    assert!(rt; is_same(rt.alloc(), pages, &over(rt.alloc(), &values)?)?);
+    Ok(())
+}
+
+// Each move of a short list, one after the other, and as many of a list of some pages.
+fn check_moves<S: Sample>(
+    rt: &(impl Abort + AllocGlobal),
+    fold: Option<Fold>,
+    mut few: Pages<S>,
+) -> Result<(), Fail> {
     for round in 0..25u64 {
-        let values = make_move(&rt, None, &mut pages, round / 5, round % 5)?;
-        let fresh = start(alloc, Digits { alloc, count: 0 }, numbers(alloc, &values)?)?;
-        compare(&rt, &pages, &fresh)?;
+        check_move(rt, fold, &mut few, (round / 5, round % 5))?;
     }
-    let mut pages = start(
-        alloc,
-        Digits { alloc, count: 0 },
-        numbers(alloc, &many(alloc)?)?,
-    )?;
+    let mut pages: Pages<S> = over(rt.alloc(), &many(rt.alloc())?)?;
     for round in 0..150u64 {
-        let (k, l) = place_of(round, 210);
-        let values = make_move(&rt, None, &mut pages, k, l)?;
-        let fresh = start(alloc, Digits { alloc, count: 0 }, numbers(alloc, &values)?)?;
-        compare(&rt, &pages, &fresh)?;
+        check_move(rt, fold, &mut pages, place_of(round, 210))?;
     }
     Ok(())
+}
+
+#[test]
+fn moves_of_digits(rt: HostRuntime) -> Result<(), Fail> {
+    let pages: Pages<Digits> = over(rt.alloc(), &[1, -2, 3, 130, 4])?;
+    check_moves(&rt, None, pages)
 }
 
 #[test]
 fn moves_of_sums(rt: HostRuntime) -> Result<(), Fail> {
-    let alloc = rt.alloc();
-    let mut pages = start(
-        alloc,
-        Sums { alloc, count: 0 },
-        numbers(alloc, &[1, 2, 3, 0, 4])?,
-    )?;
-    for round in 0..25u64 {
-        let values = make_move(&rt, Some(Fold::Sums), &mut pages, round / 5, round % 5)?;
-        let fresh = start(alloc, Sums { alloc, count: 0 }, numbers(alloc, &values)?)?;
-        compare(&rt, &pages, &fresh)?;
-    }
-    let mut pages = start(
-        alloc,
-        Sums { alloc, count: 0 },
-        numbers(alloc, &many(alloc)?)?,
-    )?;
-    for round in 0..150u64 {
-        let (k, l) = place_of(round, 210);
-        let values = make_move(&rt, Some(Fold::Sums), &mut pages, k, l)?;
-        let fresh = start(alloc, Sums { alloc, count: 0 }, numbers(alloc, &values)?)?;
-        compare(&rt, &pages, &fresh)?;
-    }
-    Ok(())
+    let pages: Pages<Sums> = over(rt.alloc(), &[1, 2, 3, 0, 4])?;
+    check_moves(&rt, Some(Fold::Sums), pages)
 }
 
 #[test]
 fn moves_of_the_largest(rt: HostRuntime) -> Result<(), Fail> {
-    let alloc = rt.alloc();
-    let mut pages = start(
-        alloc,
-        Largest { alloc, count: 0 },
-        numbers(alloc, &[1, 2, 3, 0, 4])?,
-    )?;
-    for round in 0..25u64 {
-        let values = make_move(&rt, Some(Fold::Largest), &mut pages, round / 5, round % 5)?;
-        let fresh = start(alloc, Largest { alloc, count: 0 }, numbers(alloc, &values)?)?;
-        compare(&rt, &pages, &fresh)?;
-    }
-    let mut pages = start(
-        alloc,
-        Largest { alloc, count: 0 },
-        numbers(alloc, &many(alloc)?)?,
-    )?;
-    for round in 0..150u64 {
-        let (k, l) = place_of(round, 210);
-        let values = make_move(&rt, Some(Fold::Largest), &mut pages, k, l)?;
-        let fresh = start(alloc, Largest { alloc, count: 0 }, numbers(alloc, &values)?)?;
-        compare(&rt, &pages, &fresh)?;
-    }
-    Ok(())
+    let pages: Pages<Largest> = over(rt.alloc(), &[1, 2, 3, 0, 4])?;
+    check_moves(&rt, Some(Fold::Largest), pages)
 }
 
 #[test]
 fn no_such_place(rt: HostRuntime) -> Result<(), Fail> {
     let alloc = rt.alloc();
-    let mut pages = start(alloc, Sums { alloc, count: 0 }, numbers(alloc, &[1, 2, 3])?)?;
-    for (k, l) in [(3, 0), (0, 3), (3, 3), (1 << 32, 0), (0, u64::MAX)] {
-        assert_eq!(&rt; pages.shift(k, l), Err(Refusal::NoPlace), "{k} {l}");
+    let mut pages: Pages<Sums> = over(alloc, &[1, 2, 3])?;
+    for places in [(3, 0), (0, 3), (3, 3), (1 << 32, 0), (0, u64::MAX)] {
+        check_no_place(&rt, &mut pages, places);
     }
     assert_eq!(&rt; pages.steps().count(), 3);
-    let mut none = start(alloc, Sums { alloc, count: 0 }, Vec::new(alloc))?;
-    assert_eq!(&rt; none.shift(0, 0), Err(Refusal::NoPlace));
+    let mut none: Pages<Sums> = over(alloc, &[])?;
+    check_no_place(&rt, &mut none, (0, 0));
     Ok(())
+}
+
+fn check_no_place<S: Steps>(
+    rt: &(impl Abort + AllocGlobal),
+    pages: &mut Pages<S>,
+    (k, l): (u64, u64),
+) {
+    let refused = pages.shift(k, l).err();
+    assert_eq!(rt; refused, Some(Refusal::NoPlace), "{k} {l}");
 }

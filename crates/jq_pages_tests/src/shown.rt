@@ -1,4 +1,5 @@
 // What tests compare.
+use crate::samples::{Digits, Largest, Sums};
 use jq_pages::{Change, Edited, Pages, Refusal, Steps};
 use jv_data::{NoMemory, Val};
 use std::alloc::Global;
@@ -112,6 +113,34 @@ pub(crate) fn start<S: Steps>(
     }
 }
 
+// A sample fold that has started no step.
+pub(crate) trait Sample: Steps {
+    fn sample(alloc: Global) -> Self;
+}
+
+impl Sample for Sums {
+    fn sample(alloc: Global) -> Sums {
+        Sums { alloc, count: 0 }
+    }
+}
+
+impl Sample for Digits {
+    fn sample(alloc: Global) -> Digits {
+        Digits { alloc, count: 0 }
+    }
+}
+
+impl Sample for Largest {
+    fn sample(alloc: Global) -> Largest {
+        Largest { alloc, count: 0 }
+    }
+}
+
+// A sample fold over these numbers.
+pub(crate) fn over<S: Sample>(alloc: Global, values: &[i64]) -> Result<Pages<S>, Refusal> {
+    start(alloc, S::sample(alloc), numbers(alloc, values)?)
+}
+
 pub(crate) fn make_edit<S: Steps>(pages: &mut Pages<S>, line: Edit) -> Result<Edited, Refusal> {
     match line {
         Edit::Insert(k, n) => pages.insert(k, Val::Num(n)),
@@ -120,19 +149,16 @@ pub(crate) fn make_edit<S: Steps>(pages: &mut Pages<S>, line: Edit) -> Result<Ed
     }
 }
 
-// Makes an edit, and says which pieces it changed.
-pub(crate) fn changed<S: Steps>(pages: &mut Pages<S>, line: Edit) -> Result<Change, Refusal> {
-    match make_edit(pages, line) {
-        Ok(edited) => Ok(edited.change),
-        Err(refusal) => Err(refusal),
-    }
-}
+// The fields of a `Change`: from where, how many pieces are taken out and put in, and whether `close` was run again.
+pub(crate) type Changed = (u64, u64, u64, bool);
 
-pub(crate) fn change(from: u64, cut: u64, put: u64, closed: bool) -> Change {
-    Change {
-        from,
-        cut,
-        put,
-        closed,
+// Makes an edit, and says which pieces it changed.
+pub(crate) fn changed<S: Steps>(pages: &mut Pages<S>, line: Edit) -> Result<Changed, Refusal> {
+    match make_edit(pages, line) {
+        Ok(edited) => {
+            let change = edited.change;
+            Ok((change.from, change.cut, change.put, change.closed))
+        }
+        Err(refusal) => Err(refusal),
     }
 }
