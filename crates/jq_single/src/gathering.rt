@@ -5,7 +5,7 @@ ghost use Rattle.jq_tree.specs.Tree.{trees_of};
 ghost use Rattle.jq_operations.specs.Language.{meaning_of};
 ghost use Rattle.jq_state.specs.Items.{item_of};
 ghost use Rattle.jq_operations.specs.Entering.{defined};
-ghost use Rattle.jq_single.specs.private.Gathering.{GathersAll, GathersBound, GathersBuiltin, GathersOf, GathersPaths, Gathers, GathersRun, GathersStep, made, numbers_from, step_run, supplied};
+ghost use Rattle.jq_single.specs.private.Gathering.{GathersAll, GathersBound, GathersBuiltin, GathersOf, GathersPaths, Gathers, GathersRun, GathersStep, led, made, numbers_from, step_run, supplied};
 ghost use Rattle.jv_data.specs.Text.{text_of};
 ghost use Rattle.jv_data.specs.Value.{Value};
 ghost use Rattle.jv_data.specs.View.{view};
@@ -30,12 +30,18 @@ use jq_state::steps::Operation;
 use jv_data::{NoMemory, Val};
 use std::alloc::Global;
 
-/// Items that are given one by one: one item or none, those of a vector, the last one first, or whole numbers.
+/// Items that are given one by one: those of a vector, the last one first, or whole numbers.
 #[derive(Drop)]
 pub(crate) enum Supply {
-    One(Option<Item>),
     Items(Vec<Item>),
     Numbers(Numbers),
+}
+
+/// Where a step leads to.
+#[derive(Drop)]
+pub(crate) enum Led {
+    One(Item),
+    Several(Supply),
 }
 
 /// The whole numbers from `next` on, if there is one, up to but not including `end`.
@@ -335,15 +341,17 @@ impl<'s> Context<'s> {
                 };
                 inside.gather(*tree, &item, *later, into)
             }
-            Rest::Bind(name, body, scope, depth, input, later) => {
-                let inside = Context {
-                    alloc: self.alloc,
-                    scope: *scope,
-                    depth: *depth,
-                    fuel: self.fuel,
-                    kept: true,
-                };
-                inside.give_bound(*name, *body, &item.value, *input, *later, into)
+            Rest::Bind(name, body, outer, depth, input, later) => {
+                self.give_bound(
+                    *name,
+                    *body,
+                    *outer,
+                    *depth,
+                    &item.value,
+                    *input,
+                    *later,
+                    into,
+                )
             }
             Rest::Step(step, later) => self.give_step(*step, item, *later, into),
             Rest::Fold(name, update, context) => {
@@ -357,19 +365,24 @@ impl<'s> Context<'s> {
     #[inline(never)]
     fn give_bound<'r>(
         &self,
-        name: &'s String,
-        body: &'s Tree,
+        name: &'r String,
+        body: &'r Tree,
+        outer: &'r Scope<'r>,
+        depth: u32,
         value: &Val,
         input: &Item,
         later: &Rest<'r>,
         into: &mut Vec<Val>,
     ) -> Result<(), Stop>
-        ensures { GathersBound self.now (text_of name.now) (named body.now) (view value.now) (item_of input.now) later.now result into.old.items into.new.items }
+        ensures { GathersBound outer.now depth (text_of name.now) (named body.now) (view value.now) (item_of input.now) later.now result into.old.items into.new.items }
     {
-        let scope = Scope::Value(&*self.scope, &*name, &*value);
+        let scope = Scope::Value(&*outer, &*name, &*value);
         let inside = Context {
+            alloc: self.alloc,
             scope: &scope,
-            ..*self
+            depth,
+            fuel: self.fuel,
+            kept: true,
         };
         inside.gather(&*body, input, &*later, into)
     }
@@ -394,7 +407,8 @@ impl<'s> Context<'s> {
             ..*self
         };
         match led_to(self.alloc, step, item) {
-            Ok(supply) => inside.give_all(supply, later, into),
+            Ok(Led::One(item)) => inside.give(item, later, into),
+            Ok(Led::Several(supply)) => inside.give_all(supply, later, into),
             Err(stop) => ended(stop),
         }
     }
@@ -512,9 +526,9 @@ fn supply_of(start: &Val, end: &Val) -> Option<Supply>
     }
 }
 
-// Where a step leads to.
-fn led_to(alloc: Global, step: &Step<'_>, item: Item) -> Result<Supply, Stop>
-    ensures { Comes supplied result (step_run step.now (item_of item)) }
+// Takes a step.
+fn led_to(alloc: Global, step: &Step<'_>, item: Item) -> Result<Led, Stop>
+    ensures { Comes led result (step_run step.now (item_of item)) }
 {
     let operation = match step {
         Step::At(key, guarded) => Operation::PartAtKey(*guarded, key.copy()?),
@@ -522,9 +536,9 @@ fn led_to(alloc: Global, step: &Step<'_>, item: Item) -> Result<Supply, Stop>
         Step::Path => Operation::PathValue,
     };
     match run(alloc, operation, item)? {
-        Outputs::Nothing => Ok(Supply::One(None)),
-        Outputs::One(item) => Ok(Supply::One(Some(item))),
-        Outputs::Several(items) => Ok(Supply::Items(items)),
+        Outputs::Nothing => Ok(Led::Several(Supply::Items(Vec::new(alloc)))),
+        Outputs::One(item) => Ok(Led::One(item)),
+        Outputs::Several(items) => Ok(Led::Several(Supply::Items(items))),
         Outputs::Error(error) => Err(Stop::Raised(error)),
         // A step neither makes numbers of a range nor halts.
         Outputs::Numbers(_, _, _) | Outputs::Stopped(_) => Err(Stop::Unknown),
@@ -559,7 +573,6 @@ fn take_item(supply: &mut Supply) -> Option<Item>
     ensures { MatchOption result (supplied supply.old ≡ none) (λ x. supplied supply.old ≡ before (item_of x ∷ []) (supplied supply.new)) }
 {
     match supply {
-        Supply::One(item) => item.take(),
         Supply::Items(items) => Some(items.pop()?),
         Supply::Numbers(numbers) => Some(Item::plain(take_number(numbers)?)),
     }

@@ -1,5 +1,5 @@
 // The output of a filter on a value that is kept: forms that make a value from those of their parts, and copies that others change.
-ghost use Rattle.std.specs.Prelude.{◌≡◌, ◌∷◌, [], IfOk, IfSome, Ok};
+ghost use Rattle.std.specs.Prelude.{◌≡◌, ◌∷◌, [], IfOk, Ok};
 ghost use Rattle.std.specs.Str.{chars};
 ghost use Rattle.jv_data.specs.Value.{Value, array, items_of};
 ghost use Rattle.jv_data.specs.View.{view};
@@ -59,9 +59,11 @@ impl<'s> Context<'s> {
     pub(crate) fn get_part(&self, tree: &'s Tree, value: &Val) -> Result<Val, Stop>
         ensures { RunsTo self.now (named tree.now) (view value.now) result }
     {
-        match self.at_hand(tree, value)? {
-            Some(found) => Ok(found),
-            None => self.get(tree, value),
+        match tree {
+            Tree::Identity => Ok(value.copy()?),
+            Tree::Literal(constant) => Ok(literal(constant)?),
+            Tree::Variable(name) => Ok(value_of(self.scope, name)?),
+            _ => self.get(tree, value),
         }
     }
 
@@ -72,13 +74,15 @@ impl<'s> Context<'s> {
         ensures { RunsTo self.now (named tree.now) (view value.now) result }
     {
         match tree {
-            Tree::Identity | Tree::Literal(_) | Tree::Variable(_) => self.get_part(tree, value),
+            Tree::Identity => Ok(value.copy()?),
             Tree::Empty => Err(Stop::Nothing),
+            Tree::Literal(constant) => Ok(literal(constant)?),
             Tree::Text(format, pieces, last) => {
                 let text = self.pieces(format, pieces.as_slice(), last, value)?;
                 Ok(Val::Text(text))
             }
             Tree::Format(format) => get_format(self.alloc, format, value),
+            Tree::Variable(name) => Ok(value_of(self.scope, name)?),
             Tree::Field(target, key, guarded) => self.field(target, key.value(), *guarded, value),
             Tree::Index(target, key, guarded) => self.index(target, key, *guarded, value),
             Tree::Slice(target, from, to, guarded) => self.slice(target, from, to, *guarded, value),
@@ -206,8 +210,13 @@ impl<'s> Context<'s> {
     fn array(&self, filter: &'s Tree, value: &Val) -> Result<Val, Stop>
         ensures { RunsTo self.now (form.array (named filter.now)) (view value.now) result }
     {
-        if let Some(item) = self.at_hand(filter, value)? {
-            return Ok(array_of_one(self.alloc, item)?);
+        if matches!(
+            filter,
+            Tree::Identity | Tree::Literal(_) | Tree::Variable(_)
+        ) {
+            if let Ok(item) = self.get_part(filter, value) {
+                return Ok(array_of_one(self.alloc, item)?);
+            }
         }
         let mut items = Vec::new(self.alloc);
         self.collect(filter, value, usize::MAX, &mut items)?;
@@ -342,19 +351,6 @@ impl<'s> Context<'s> {
                 self.member(&found.into_text(), filter, made, value)
             }
             Entry::Own(_) => Err(Stop::Unknown),
-        }
-    }
-
-    // The output of a filter that is the input, a constant or a variable.
-    #[inline(always)]
-    fn at_hand(&self, tree: &Tree, value: &Val) -> Result<Option<Val>, NoMemory>
-        ensures { IfOk result (λ o. IfSome o (λ v. RunsTo self.now (named tree.now) (view value.now) (Ok v))) }
-    {
-        match tree {
-            Tree::Identity => Ok(Some(value.copy()?)),
-            Tree::Literal(constant) => Ok(Some(literal(constant)?)),
-            Tree::Variable(name) => Ok(Some(value_of(self.scope, name)?)),
-            _ => Ok(None),
         }
     }
 

@@ -21,12 +21,15 @@ use Rattle.jq_single.specs.private.Parts.{ChangesTo, builtin_in, run}
 use Rattle.jq_single.specs.private.Scopes.{scope_env}
 use Rattle.jq_single.specs.declared.contexts.Context.{Context}
 use Rattle.jq_single.specs.declared.gathering.Numbers.{Numbers}
+use Rattle.jq_single.specs.declared.gathering.Led.{Led}
+use Rattle.jq_single.specs.declared.gathering.Led.TheVariants as lead
 use Rattle.jq_single.specs.declared.gathering.Supply.{Supply}
 use Rattle.jq_single.specs.declared.gathering.Supply.TheVariants as supply
 use Rattle.jq_single.specs.declared.rests.Rest.{Rest}
 use Rattle.jq_single.specs.declared.rests.Rest.TheVariants as rest
 use Rattle.jq_single.specs.declared.rests.Step.{Step}
 use Rattle.jq_single.specs.declared.rests.Step.TheVariants as step
+use Rattle.jq_single.specs.declared.scopes.Scope.{Scope}
 use Rattle.jq_single.specs.declared.stops.Stop.{Stop}
 
 -- Where a step leads to.
@@ -78,11 +81,11 @@ Gathers make (Err s) xs ys r = (q : Run Item) → Ends s (make xs (then_run r q)
 abbrev pub GathersRun : {A : Type 0} → Run Item → Rest → Result A Stop → (before later : List Val) → Type 0
 GathersRun r later result xs ys = (inputs : Run Value) (level : ℕ) → Gathers (made inputs level later) result xs ys (bind r (rest_run inputs level later))
 
--- The same for the outputs of a body on an item, in which a variable is bound to a value.
-abbrev pub GathersBound : {A : Type 0} → Context → Name → Tree → Value → Item → Rest → Result A Stop → (before later : List Val) → Type 0
-GathersBound p n t v x later result xs ys =
+-- The same for the outputs of a body on an item, with a variable that is bound to a value in a scope.
+abbrev pub GathersBound : {A : Type 0} → Scope → (depth : ℕ) → Name → Tree → Value → Item → Rest → Result A Stop → (before later : List Val) → Type 0
+GathersBound outer depth n t v x later result xs ys =
     (inputs : Run Value) (level : ℕ)
-    → Gathers (made inputs level later) result xs ys (bind (meaning p.depth t (bound (value_of n v) (scope_env inputs p.scope.now)) level x) (rest_run inputs level later))
+    → Gathers (made inputs level later) result xs ys (bind (meaning depth t (bound (value_of n v) (scope_env inputs outer)) level x) (rest_run inputs level later))
 
 -- The same for the outputs of a tree on an item.
 abbrev pub GathersOf : {A : Type 0} → Context → Tree → Item → Rest → Result A Stop → (before later : List Val) → Type 0
@@ -114,9 +117,13 @@ numbers_from ns = elim ns.next [ None ↦ none | Some n ↦ numbers_up_to n ns.e
 
 -- the items of a supply
 abbrev pub supplied : Supply → Run Item
-supplied (supply.One o) = elim o [ None ↦ none | Some x ↦ one (item_of x) ]
 supplied (supply.Items xs) = given_of xs.items
 supplied (supply.Numbers ns) = numbers_from ns
+
+-- the outputs that a step leads to
+abbrev pub led : Led → Run Item
+led (lead.One x) = one (item_of x)
+led (lead.Several s) = supplied s
 
 -- ---- folds
 

@@ -40,7 +40,7 @@ get_made-returns-in_ok-text-in-Text t c = λ inputs level.
 
 pub get_made-returns-in_err-text-in-Text : goal.get_made-returns-in_err-text-in-Text
 get_made-returns-in_err-text-in-Text t c = λ inputs level.
-    rw (ap named c.in-Text.is ∙ named-Text c.in-Text.format c.in-Text.pieces c.in-Text.last, ← c.as_slice.ensures.value) (part_stops _ _ _ _ text_item c.from_residual.ensures.1 (c.in_err-text-in-Text.ensures inputs level))
+    rw (ap named c.in-Text.is ∙ named-Text c.in-Text.format c.in-Text.pieces c.in-Text.last, ← c.as_slice.ensures.value) (part_stops _ _ _ _ text_item c.from_residual-in_err-text-in-Text.ensures.1 (c.in_err-text-in-Text.ensures inputs level))
 
 pub get_made-returns-in-Field : goal.get_made-returns-in-Field
 get_made-returns-in-Field t c = λ inputs level.
