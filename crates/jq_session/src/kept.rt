@@ -21,12 +21,22 @@ use jv_data::{NoMemory, Val};
 use std::alloc::Global;
 
 /// What is kept, by how an edit is followed.
-#[derive(Drop)]
 pub(crate) enum Kept {
     Each(PagedSession<EachInput>),
     Fold(PagedSession<FoldSteps>),
     UntilHalt(PagedSession<UntilHalt>),
     Whole(WholeSession),
+}
+
+impl Drop for Kept {
+    fn drop(self) {
+        match self {
+            Kept::Each(_) => {}
+            Kept::Fold(_) => {}
+            Kept::UntilHalt(_) => {}
+            Kept::Whole(_) => {}
+        }
+    }
 }
 
 impl Kept {
