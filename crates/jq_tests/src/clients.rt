@@ -37,6 +37,17 @@ impl Client {
         Ok(())
     }
 
+    /// Follows both halves of a move. Returns how often they started the filter.
+    pub(crate) fn follow_move(
+        &mut self,
+        alloc: Global,
+        (removal, insertion): &(Follow, Follow),
+    ) -> Result<u64, Fail> {
+        self.follow(alloc, removal)?;
+        self.follow(alloc, insertion)?;
+        Ok(removal.runs.saturating_add(insertion.runs))
+    }
+
     /// The client has this output, these errors and this status.
     pub(crate) fn check(
         &self,
@@ -44,17 +55,32 @@ impl Client {
         named: &str,
         (out, err, status): (&str, &str, u8),
     ) {
-        assert_eq!(rt; self.out.as_slice(), out.as_bytes(), "{named}");
-        assert_eq!(rt; self.err.as_slice(), err.as_bytes(), "{named}");
-        assert_eq!(rt; self.status, status, "{named}");
+        self.check_bytes(rt, named, (out.as_bytes(), err.as_bytes(), status));
+    }
+
+    fn check_bytes(
+        &self,
+        rt: &(impl Abort + AllocGlobal),
+        named: &str,
+        wanted: (&[u8], &[u8], u8),
+    ) {
+        let found = (self.out.as_slice(), self.err.as_slice(), self.status);
+        assert_eq!(rt; found, wanted, "{named}");
     }
 
     /// The client has the same output, errors and status as another.
     pub(crate) fn check_same(&self, rt: &(impl Abort + AllocGlobal), named: &str, other: &Client) {
-        assert_eq!(rt; self.out.as_slice(), other.out.as_slice(), "{named}");
-        assert_eq!(rt; self.err.as_slice(), other.err.as_slice(), "{named}");
-        assert_eq!(rt; self.status, other.status, "{named}");
+        self.check_bytes(rt, named, (&other.out, &other.err, other.status));
     }
+}
+
+/// The numbers from 1 to this one.
+pub(crate) fn list(alloc: Global, last: i64) -> Result<Vec<i64>, Fail> {
+    let mut list = Vec::new(alloc);
+    for number in 1..=last {
+        list.push(number)?;
+    }
+    Ok(list)
 }
 
 /// What a client has of a session that is started over these numbers.
@@ -63,12 +89,16 @@ pub(crate) fn fresh(
     (flag, filter): (&str, &str),
     numbers: &[i64],
 ) -> Result<Client, Fail> {
-    let alloc = rt.alloc();
+    let session = started(rt, flag, filter, values(rt.alloc(), numbers)?)?;
+    Client::new(rt.alloc(), &session)
+}
+
+fn values(alloc: Global, numbers: &[i64]) -> Result<Vec<Val>, Fail> {
     let mut values = Vec::new(alloc);
     for number in numbers {
         values.push(Val::Num(*number))?;
     }
-    Client::new(alloc, &started(rt, flag, filter, values)?)
+    Ok(values)
 }
 
 fn spliced(alloc: Global, bytes: &[u8], splice: &Splice) -> Result<Vec<u8>, Fail> {

@@ -19,12 +19,15 @@ fn edit(session: &mut Session, (name, k, number): (&str, u64, i64)) -> Result<Fo
     }
 }
 
-// The edits in turn: each with the count of starts after it, and what a client then has. An edit that starts nothing may be refused.
-fn check(
-    rt: &(impl Abort + AllocGlobal),
-    session: &mut Session,
-    rows: &[((&str, u64, i64), u64, (&str, &str, u8))],
-) -> Result<(), Fail> {
+// An edit, the count of starts after it, and what a client then has.
+type Row = (
+    (&'static str, u64, i64),
+    u64,
+    (&'static str, &'static str, u8),
+);
+
+// The edits in turn. One that starts nothing may be refused.
+fn check(rt: &(impl Abort + AllocGlobal), session: &mut Session, rows: &[Row]) -> Result<(), Fail> {
     let mut client = Client::new(rt.alloc(), session)?;
     for (line, count, want) in rows {
         let before = session.starts();
@@ -45,23 +48,42 @@ fn check(
     Ok(())
 }
 
+const QUOTIENT: &str = "jq: error: quotient is not whole\n";
+
+static EACH: [Row; 6] = [
+    (("insert", 9, 1), 2, ("6\n3\n", "", 0)),
+    (("insert", 0, 4), 3, ("6\n3\n", QUOTIENT, 5)),
+    (("replace", 0, 3), 4, ("2\n6\n3\n", "", 0)),
+    (("replace", 3, 3), 4, ("2\n6\n3\n", "", 0)),
+    (("remove", 1, 0), 4, ("2\n3\n", "", 0)),
+    (("append", 0, 5), 5, ("2\n3\n", QUOTIENT, 5)),
+];
+
 #[test]
 fn on_each_input(rt: HostRuntime) -> Result<(), Fail> {
     let mut session = started(&rt, "", "6 / .", numbers(rt.alloc(), 2)?)?;
-    let error = "jq: error: quotient is not whole\n";
-    check(
-        &rt,
-        &mut session,
-        &[
-            (("insert", 9, 1), 2, ("6\n3\n", "", 0)),
-            (("insert", 0, 4), 3, ("6\n3\n", error, 5)),
-            (("replace", 0, 3), 4, ("2\n6\n3\n", "", 0)),
-            (("replace", 3, 3), 4, ("2\n6\n3\n", "", 0)),
-            (("remove", 1, 0), 4, ("2\n3\n", "", 0)),
-            (("append", 0, 5), 5, ("2\n3\n", error, 5)),
-        ],
-    )?;
+    check(&rt, &mut session, &EACH)?;
     assert_eq!(&rt; session.len(), 3);
+    Ok(())
+}
+
+fn check_answer(
+    rt: &(impl Abort + AllocGlobal),
+    follow: &Follow,
+    runs: u64,
+    (at, cut): (u128, u128),
+    put: &[u8],
+) {
+    let answer = (follow.runs, follow.status, follow.out.at, follow.out.cut);
+    assert_eq!(rt; answer, (runs, 0, at, cut));
+    assert_eq!(rt; follow.out.put.as_slice(), put);
+}
+
+fn check_answers(rt: &(impl Abort + AllocGlobal), session: &mut Session) -> Result<(), Fail> {
+    let replaced = session.replace(499, Val::Num(7))?;
+    check_answer(rt, &replaced, 1, (1_888, 4), b"7\n");
+    check_answer(rt, &session.remove(499)?, 0, (1_888, 2), b"");
+    assert_eq!(rt; session.starts(), 1_001);
     Ok(())
 }
 
@@ -69,47 +91,34 @@ fn on_each_input(rt: HostRuntime) -> Result<(), Fail> {
 #[test]
 fn one_of_many(rt: HostRuntime) -> Result<(), Fail> {
     let mut session = started(&rt, "", ".", numbers(rt.alloc(), 1_000)?)?;
-    let replaced = session.replace(499, Val::Num(7))?;
-    assert_eq!(&rt; (replaced.runs, replaced.status), (1, 0));
-    assert_eq!(&rt; (replaced.out.at, replaced.out.cut), (1_888, 4));
-    assert_eq!(&rt; replaced.out.put.as_slice(), b"7\n".as_slice());
-    let removed = session.remove(499)?;
-    assert_eq!(&rt; (removed.runs, removed.status), (0, 0));
-    assert_eq!(&rt; (removed.out.at, removed.out.cut), (1_888, 2));
-    assert_eq!(&rt; removed.out.put.len(), 0);
-    assert_eq!(&rt; session.starts(), 1_001);
-    Ok(())
+    check_answers(&rt, &mut session)
 }
+
+static HALTS: [Row; 2] = [
+    (("replace", 0, 9), 6, ("9\n2\n", "", 0)),
+    (("remove", 2, 0), 10, ("9\n2\n4\n5\n", "", 0)),
+];
 
 // After a halt no input is run, so an edit makes all runs again, up to the first that halts.
 #[test]
 fn up_to_a_halt(rt: HostRuntime) -> Result<(), Fail> {
     let filter = "if . == 3 then halt else . end";
     let mut session = started(&rt, "", filter, numbers(rt.alloc(), 5)?)?;
-    check(
-        &rt,
-        &mut session,
-        &[
-            (("replace", 0, 9), 6, ("9\n2\n", "", 0)),
-            (("remove", 2, 0), 10, ("9\n2\n4\n5\n", "", 0)),
-        ],
-    )
+    check(&rt, &mut session, &HALTS)
 }
+
+static ALL: [Row; 3] = [
+    (("replace", 990, 990), 2, ("500499\n", "", 0)),
+    (("remove", 1_000, 0), 2, ("500499\n", "", 0)),
+    (("append", 0, 1), 3, ("500500\n", "", 0)),
+];
 
 // One run on all inputs, however many there are.
 #[test]
 fn on_all_inputs(rt: HostRuntime) -> Result<(), Fail> {
     for (flag, filter) in [("-n", "[inputs] | add"), ("-s", "add")] {
         let mut session = started(&rt, flag, filter, numbers(rt.alloc(), 1_000)?)?;
-        check(
-            &rt,
-            &mut session,
-            &[
-                (("replace", 990, 990), 2, ("500499\n", "", 0)),
-                (("remove", 1_000, 0), 2, ("500499\n", "", 0)),
-                (("append", 0, 1), 3, ("500500\n", "", 0)),
-            ],
-        )?;
+        check(&rt, &mut session, &ALL)?;
     }
     Ok(())
 }

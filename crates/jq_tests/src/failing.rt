@@ -5,7 +5,7 @@ use jq_devices::{Read, StreamFault, Watched};
 use jq_filters::Filter;
 use jq_starts::Starts;
 use jq_stream::{Outputs, Streams, run_stream};
-use std::alloc::Global;
+use std::alloc::{AllocError, Global};
 use std::process::Abort;
 use std::test::Fail;
 
@@ -20,7 +20,7 @@ pub(crate) struct Row {
     pub(crate) status: u8,
 }
 
-pub(crate) const ROWS: [Row; 6] = [
+pub(crate) static ROWS: [Row; 6] = [
     Row {
         flag: "",
         filter: ".",
@@ -84,8 +84,9 @@ fn check_outputs(
     named: &str,
     (out, err): (&str, &str),
 ) {
-    assert_eq!(rt; outputs.output.device().bytes(), out.as_bytes(), "{named}");
-    assert_eq!(rt; outputs.errors.device().bytes(), err.as_bytes(), "{named}");
+    let (output, errors) = (outputs.output.device(), outputs.errors.device());
+    let found = (output.bytes(), errors.bytes());
+    assert_eq!(rt; found, (out.as_bytes(), err.as_bytes()), "{named}");
 }
 
 fn run<R: Read>(
@@ -108,7 +109,7 @@ fn run<R: Read>(
 const TEXT: &[u8] = b"{\"a\":1} 5 [2]\"x\"";
 
 // After how many bytes each value of the text is whole, and how it is printed.
-const WHOLE: [(usize, &str); 4] = [(7, "{\"a\":1}"), (10, "5"), (13, "[2]"), (16, "\"x\"")];
+static WHOLE: [(usize, &str); 4] = [(7, "{\"a\":1}"), (10, "5"), (13, "[2]"), (16, "\"x\"")];
 
 // What a command writes that prints each value, or the array of all, where so many bytes of the text were read.
 fn wanted(alloc: Global, flag: &str, count: usize) -> Result<String, Fail> {
@@ -146,17 +147,26 @@ fn check_reader(
     let before = fails.saturating_sub(1).saturating_mul(most);
     let count = if is_made { before } else { TEXT.len() };
     let named = format!(in rt.alloc(); "{flag}: {most} bytes a call, call {fails} fails")?;
-    if is_made {
-        assert_eq!(rt; result, Err(StreamFault::Read), "{named}");
-        assert_eq!(rt; streams.input.failures(), 1, "{named}");
-        assert_eq!(rt; streams.input.device().calls(), fails, "{named}");
-    } else {
-        assert_eq!(rt; result, Ok(0), "{named}");
-        assert_eq!(rt; streams.input.failures(), 0, "{named}");
-    }
+    let call = if is_made { Some(fails) } else { None };
+    check_read(rt, named.as_str(), result, (&streams.input, call));
     let out = wanted(rt.alloc(), flag, count)?;
     check_outputs(rt, &streams.outputs, named.as_str(), (out.as_str(), ""));
     Ok(())
+}
+
+// The reader failed at the call of this number, which was the last, or at none.
+fn check_read(
+    rt: &(impl Abort + AllocGlobal),
+    named: &str,
+    ended: Result<u8, StreamFault>,
+    (input, call): (&Watched<Bytes<'_>>, Option<usize>),
+) {
+    if let Some(call) = call {
+        let found = (ended, input.failures(), input.device().calls());
+        assert_eq!(rt; found, (Err(StreamFault::Read), 1, call), "{named}");
+    } else {
+        assert_eq!(rt; (ended, input.failures()), (Ok(0), 0), "{named}");
+    }
 }
 
 // The values that are whole before the call that fails are answered, and it is the last call.
@@ -254,13 +264,33 @@ fn check_failed(
     (failed, sound): (&Watched<Kept>, &Watched<Kept>),
     (wanted, other): (&str, &str),
 ) {
-    assert_eq!(rt; failed.device().calls(), fails, "{}", row.filter);
-    assert_eq!(rt; failed.failures(), 1, "{}", row.filter);
-    assert_eq!(rt; sound.failures(), 0, "{}", row.filter);
+    let found = (failed.device().calls(), failed.failures(), sound.failures());
+    assert_eq!(rt; found, (fails, 1, 0), "{}", row.filter);
     let front = failed.device().bytes();
     assert!(rt; wanted.as_bytes().starts_with(front), "{}", row.filter);
     let front = sound.device().bytes();
     assert!(rt; other.as_bytes().starts_with(front), "{}", row.filter);
+}
+
+// The output fails at a call, or the errors do (0: none does).
+fn check_writer(
+    rt: &(impl Abort + AllocGlobal),
+    starts: &mut Starts,
+    (row, compiled): (&Row, &Filter),
+    most: usize,
+    (out, err): (usize, usize),
+) {
+    let alloc = rt.alloc();
+    let errors = Kept::new(alloc, usize::MAX, err);
+    let outputs = Outputs::new(Kept::new(alloc, usize::MAX, out), errors);
+    let (result, outputs) = run_row(alloc, starts, (row, compiled), most, outputs);
+    assert_eq!(rt; result, Err(StreamFault::Write), "{}", row.filter);
+    let (output, errors) = (&outputs.output, &outputs.errors);
+    if err == 0 {
+        check_failed(rt, row, out, (output, errors), (row.out, row.err));
+    } else {
+        check_failed(rt, row, err, (errors, output), (row.err, row.out));
+    }
 }
 
 // The output fails at each of its calls, and then the errors at each of theirs.
@@ -280,20 +310,10 @@ fn check_writers(
     assert!(rt; out_calls > 0 || row.out.is_empty(), "{}", row.filter);
     assert!(rt; err_calls > 0 || row.err.is_empty(), "{}", row.filter);
     for fails in 1..=out_calls {
-        let errors = Kept::new(alloc, usize::MAX, 0);
-        let outputs = Outputs::new(Kept::new(alloc, usize::MAX, fails), errors);
-        let (result, outputs) = run_row(alloc, starts, (row, compiled), most, outputs);
-        assert_eq!(rt; result, Err(StreamFault::Write), "{}", row.filter);
-        let devices = (&outputs.output, &outputs.errors);
-        check_failed(rt, row, fails, devices, (row.out, row.err));
+        check_writer(rt, starts, (row, compiled), most, (fails, 0));
     }
     for fails in 1..=err_calls {
-        let errors = Kept::new(alloc, usize::MAX, fails);
-        let outputs = Outputs::new(Kept::new(alloc, usize::MAX, 0), errors);
-        let (result, outputs) = run_row(alloc, starts, (row, compiled), most, outputs);
-        assert_eq!(rt; result, Err(StreamFault::Write), "{}", row.filter);
-        let devices = (&outputs.errors, &outputs.output);
-        check_failed(rt, row, fails, devices, (row.err, row.out));
+        check_writer(rt, starts, (row, compiled), most, (0, fails));
     }
     Ok(())
 }
@@ -329,17 +349,23 @@ fn writers_that_take_nothing(rt: HostRuntime) -> Result<(), Fail> {
     Ok(())
 }
 
-// What is answered before a write fails is at most one piece of the input.
-#[test]
-fn lines_for_a_writer_that_fails(rt: HostRuntime) -> Result<(), Fail> {
-    let alloc = rt.alloc();
-    let mut starts = Starts::new(&rt);
+// Lines of one digit.
+fn lines(alloc: Global) -> Result<Vec<u8>, AllocError> {
     let mut lines = vec![in alloc; b'1'; 2_000_000]?;
     for (i, byte) in lines.iter_mut().enumerate() {
         if i % 2 == 1 {
             *byte = b'\n';
         }
     }
+    Ok(lines)
+}
+
+// What is answered before a write fails is at most one piece of the input.
+#[test]
+fn lines_for_a_writer_that_fails(rt: HostRuntime) -> Result<(), Fail> {
+    let alloc = rt.alloc();
+    let mut starts = Starts::new(&rt);
+    let lines = lines(alloc)?;
     let compiled = compile_under(alloc, "", ".")?;
     let input = Bytes::new(lines.as_slice(), usize::MAX, 0);
     let errors = Kept::new(alloc, usize::MAX, 0);

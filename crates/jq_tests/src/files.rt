@@ -84,6 +84,15 @@ fn shown<R: Read>(
     Ok(shown)
 }
 
+static READS: [(&str, usize, usize, &str); 6] = [
+    ("first second", 8, 4, "[1,|2] 3|||"),
+    ("second first", 2, 6, "2]| 3|[1|,|||"),
+    ("first broken second", 2, 6, "[1|,|4 |5|!|!|"),
+    ("first missing second", 8, 4, "[1,|!|!|!|"),
+    ("missing first", 8, 3, "!|!|!|"),
+    ("first first", 0, 2, "||"),
+];
+
 #[test]
 fn reads_files_one_after_the_other(rt: HostRuntime) -> Result<(), Fail> {
     let alloc = rt.alloc();
@@ -92,15 +101,8 @@ fn reads_files_one_after_the_other(rt: HostRuntime) -> Result<(), Fail> {
         second: b"2] 3",
         broken: b"4 5",
     };
-    let rows = [
-        ("first second", 8, 4, "[1,|2] 3|||"),
-        ("second first", 2, 6, "2]| 3|[1|,|||"),
-        ("first broken second", 2, 6, "[1|,|4 |5|!|!|"),
-        ("first missing second", 8, 4, "[1,|!|!|!|"),
-        ("missing first", 8, 3, "!|!|!|"),
-        ("first first", 0, 2, "||"),
-    ];
-    for (row, most, reads, want) in rows {
+    for row in &READS {
+        let (row, most, reads, want) = *row;
         let names = words(alloc, row)?;
         let mut reader = UnnamedFiles::new(&memory).named(names);
         let given = shown(alloc, &mut reader, most, reads)?;
@@ -108,6 +110,13 @@ fn reads_files_one_after_the_other(rt: HostRuntime) -> Result<(), Fail> {
     }
     Ok(())
 }
+
+static RUNS: [(&str, &str, &str); 4] = [
+    ("first second broken first", "[1,2]\n34\n", "[[1,2],34]\n"),
+    ("first second missing", "[1,2]\n", "[[1,2]]\n"),
+    ("missing first second", "", "[]\n"),
+    ("broken", "4\n", "[4]\n"),
+];
 
 // The texts that are whole before a read or an opening fails are answered, in each way to run.
 #[test]
@@ -119,12 +128,8 @@ fn runs_over_files_that_fail(rt: HostRuntime) -> Result<(), Fail> {
         broken: b"4 5",
     };
     let mut starts = Starts::new(&rt);
-    for (row, lines, array) in [
-        ("first second broken first", "[1,2]\n34\n", "[[1,2],34]\n"),
-        ("first second missing", "[1,2]\n", "[[1,2]]\n"),
-        ("missing first second", "", "[]\n"),
-        ("broken", "4\n", "[4]\n"),
-    ] {
+    for row in &RUNS {
+        let (row, lines, array) = *row;
         for (flag, filter, out) in [
             ("", ".", lines),
             ("-n", "[inputs]", array),

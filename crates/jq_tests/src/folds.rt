@@ -28,6 +28,26 @@ fn check_starts(
     assert!(rt; follow.runs <= most);
 }
 
+// Replaces or appends an input, which starts the filter at most so often, and then the client has this. Returns how many bytes the
+// output's splice puts in.
+fn check_edit(
+    rt: &(impl Abort + AllocGlobal),
+    session: &mut Session,
+    client: &mut Client,
+    (place, number): (Option<u64>, i64),
+    (most, want): (u64, (&str, &str, u8)),
+) -> Result<usize, Fail> {
+    let before = session.starts();
+    let follow = match place {
+        Some(k) => session.replace(k, Val::Num(number))?,
+        None => session.append(Val::Num(number))?,
+    };
+    check_starts(rt, session, before, &follow, most);
+    client.follow(rt.alloc(), &follow)?;
+    client.check(rt, "a fold", want);
+    Ok(follow.out.put.len())
+}
+
 // The greatest of 1,000 inputs is found again after two inputs, so the pages after that of the edit are not run.
 #[test]
 fn a_greatest_input(rt: HostRuntime) -> Result<(), Fail> {
@@ -36,12 +56,9 @@ fn a_greatest_input(rt: HostRuntime) -> Result<(), Fail> {
     assert_eq!(&rt; session.starts(), 1_002);
     let mut client = Client::new(rt.alloc(), &session)?;
     for k in [990, 500, 0] {
-        let before = session.starts();
-        let follow = session.replace(k, Val::Num(4))?;
-        check_starts(&rt, &session, before, &follow, 130);
-        assert_eq!(&rt; follow.out.put.len(), 0);
-        client.follow(rt.alloc(), &follow)?;
-        client.check(&rt, "a greatest input", ("1000\n", "", 0));
+        let want = (130, ("1000\n", "", 0));
+        let put = check_edit(&rt, &mut session, &mut client, (Some(k), 4), want)?;
+        assert_eq!(&rt; put, 0);
     }
     Ok(())
 }
@@ -53,18 +70,21 @@ fn a_sum(rt: HostRuntime) -> Result<(), Fail> {
     let mut session = started(&rt, "-n", filter, ones(rt.alloc(), 200)?)?;
     let mut client = Client::new(rt.alloc(), &session)?;
     client.check(&rt, "a sum", ("200\n", "", 0));
-    let before = session.starts();
-    let first = session.replace(0, Val::Num(5))?;
-    check_starts(&rt, &session, before, &first, 329);
-    client.follow(rt.alloc(), &first)?;
-    client.check(&rt, "a sum", ("204\n", "", 0));
-    let before = session.starts();
-    let last = session.append(Val::Num(3))?;
-    check_starts(&rt, &session, before, &last, 130);
-    client.follow(rt.alloc(), &last)?;
-    client.check(&rt, "a sum", ("207\n", "", 0));
+    for (edit, most, out) in [((Some(0), 5), 329, "204\n"), ((None, 3), 130, "207\n")] {
+        let want = (most, (out, "", 0));
+        let _put = check_edit(&rt, &mut session, &mut client, edit, want)?;
+    }
     Ok(())
 }
+
+const QUOTIENT: &str = "jq: error: quotient is not whole\n";
+
+static STOPS: [(u64, i64, (&str, &str, u8)); 4] = [
+    (1, 4, ("6\n", QUOTIENT, 5)),
+    (0, 7, ("", "", 0)),
+    (0, 6, ("1\n", QUOTIENT, 5)),
+    (1, 2, ("1\n4\n6\n", "", 0)),
+];
 
 // What stops a fold, an error or a halt, is shown as soon as its input is there, and what was hidden as soon as it is gone.
 #[test]
@@ -72,19 +92,10 @@ fn folds_that_stop(rt: HostRuntime) -> Result<(), Fail> {
     let filter = "foreach inputs as $x (0; if $x == 7 then halt else . + 6 / $x end; .)";
     let mut session = started(&rt, "-n", filter, numbers(rt.alloc(), 3)?)?;
     let mut client = Client::new(rt.alloc(), &session)?;
-    let error = "jq: error: quotient is not whole\n";
-    let rows = [
-        (1, 4, ("6\n", error, 5)),
-        (0, 7, ("", "", 0)),
-        (0, 6, ("1\n", error, 5)),
-        (1, 2, ("1\n4\n6\n", "", 0)),
-    ];
-    for (k, number, want) in rows {
-        let before = session.starts();
-        let follow = session.replace(k, Val::Num(number))?;
-        check_starts(&rt, &session, before, &follow, 132);
-        client.follow(rt.alloc(), &follow)?;
-        client.check(&rt, "folds that stop", want);
+    for row in &STOPS {
+        let (k, number, want) = *row;
+        let edit = (Some(k), number);
+        let _put = check_edit(&rt, &mut session, &mut client, edit, (132, want))?;
     }
     Ok(())
 }

@@ -39,27 +39,30 @@ fn answer_again(alloc: Global, flag: &str, filter: &str) -> Result<String, Alloc
     answer(alloc, flag, filter)
 }
 
+static COMPILED: [(&str, &str, &str); 3] = [
+    (
+        "-n",
+        "def f($n; g): label $o | (if $n > 0 then f($n - 1; break $o) else g end), $n; [f(1; empty)]",
+        "Whole",
+    ),
+    (
+        "-n",
+        "reduce inputs as [$x, {a: $y}] (0; . + $x)",
+        "Fold, reads",
+    ),
+    (
+        "",
+        "\"a\\(f(1; 2))\"",
+        "Undefined(Function { name: \"f\", arity: 2 })",
+    ),
+];
+
 #[test]
 fn compiling(rt: HostRuntime) -> Result<(), Fail> {
     let alloc = rt.alloc();
     let mark = mark(alloc)?;
-    for (flag, filter, want) in [
-        (
-            "-n",
-            "def f($n; g): label $o | (if $n > 0 then f($n - 1; break $o) else g end), $n; [f(1; empty)]",
-            "Whole",
-        ),
-        (
-            "-n",
-            "reduce inputs as [$x, {a: $y}] (0; . + $x)",
-            "Fold, reads",
-        ),
-        (
-            "",
-            "\"a\\(f(1; 2))\"",
-            "Undefined(Function { name: \"f\", arity: 2 })",
-        ),
-    ] {
+    for row in &COMPILED {
+        let (flag, filter, want) = *row;
         let found = answer_again(alloc, flag, filter)?;
         assert_eq!(rt; found.as_str(), want, "{filter}");
     }
@@ -67,16 +70,19 @@ fn compiling(rt: HostRuntime) -> Result<(), Fail> {
     Ok(())
 }
 
+static REFUSED: [(&str, &str, &str); 4] = [
+    ("", ". as [$x] | ~", "Lex { at: 12 }"),
+    ("", "[.a, {b: \"c\"}", "Syntax"),
+    ("-n", "[inputs], inputs", "InputsPlace"),
+    ("", "inputs", "InputsNeedNull"),
+];
+
 #[test]
 fn refusing(rt: HostRuntime) -> Result<(), Fail> {
     let alloc = rt.alloc();
     let mark = mark(alloc)?;
-    for (flag, filter, want) in [
-        ("", ". as [$x] | ~", "Lex { at: 12 }"),
-        ("", "[.a, {b: \"c\"}", "Syntax"),
-        ("-n", "[inputs], inputs", "InputsPlace"),
-        ("", "inputs", "InputsNeedNull"),
-    ] {
+    for row in &REFUSED {
+        let (flag, filter, want) = *row;
         let found = answer_again(alloc, flag, filter)?;
         assert_eq!(rt; found.as_str(), want, "{filter}");
     }
@@ -134,8 +140,9 @@ fn gives(
     for answer in answers {
         let turn = engine.next();
         if matches!(&turn, Turn::NoMemory) {
-            assert!(rt; matches!(&engine.next(), Turn::NoMemory), "{filter}");
-            assert!(rt; matches!(&engine.next(), Turn::NoMemory), "{filter}");
+            for _ in 0..2 {
+                assert!(rt; matches!(&engine.next(), Turn::NoMemory), "{filter}");
+            }
             return Ok(false);
         }
         let found = shown_again(rt.alloc(), &turn)?;
@@ -223,11 +230,11 @@ fn run_row(
         &mut streams,
     );
     let (output, errors) = streams.outputs.into_devices();
-    assert!(rt; output.is_front(), "output of {}", row.filter);
-    assert!(rt; errors.is_front(), "errors of {}", row.filter);
+    let are_front = (output.is_front(), errors.is_front());
+    assert_eq!(rt; are_front, (true, true), "{}", row.filter);
     if result.is_ok() {
-        assert!(rt; output.is_whole(), "whole output of {}", row.filter);
-        assert!(rt; errors.is_whole(), "whole errors of {}", row.filter);
+        let are_whole = (output.is_whole(), errors.is_whole());
+        assert_eq!(rt; are_whole, (true, true), "whole of {}", row.filter);
     }
     result
 }
@@ -278,14 +285,13 @@ pub(crate) fn check_session(
     session.write_err(&mut errors)?;
     assert!(rt; output.into_device().is_whole(), "output {out}");
     assert!(rt; errors.into_device().is_whole(), "errors {err}");
-    assert_eq!(rt; session.status(), status);
-    assert_eq!(rt; session.out_len(), out.len() as u128);
-    assert_eq!(rt; session.err_len(), err.len() as u128);
+    let found = (session.status(), session.out_len(), session.err_len());
+    assert_eq!(rt; found, (status, out.len() as u128, err.len() as u128));
     Ok(())
 }
 
-/// Makes each edit. One that finds no memory leaves the session as it was, and is made again.
-pub(crate) fn check_edits(
+// Makes each edit. One that finds no memory leaves the session as it was, and is made again.
+fn check_edits(
     rt: &impl Abort,
     session: &mut Session,
     first: (&'static str, &'static str, u8),
@@ -308,9 +314,22 @@ pub(crate) fn check_edits(
     Ok(())
 }
 
+/// The same after the mark: the edits may be refused memory.
+pub(crate) fn check_marked(
+    rt: &(impl Abort + AllocGlobal),
+    session: &mut Session,
+    first: (&'static str, &'static str, u8),
+    lines: &[Line],
+) -> Result<(), Fail> {
+    let mark = mark(rt.alloc())?;
+    check_edits(rt, session, first, lines)?;
+    assert!(rt; mark.is_empty());
+    Ok(())
+}
+
 const QUOTIENT: &str = "jq: error: quotient is not whole\n";
 
-const EACH: [Line; 5] = [
+static EACH: [Line; 5] = [
     ("insert", 0, 4, ("6\n3\n", QUOTIENT, 5)),
     ("replace", 0, 3, ("2\n6\n3\n", "", 0)),
     ("remove", 1, 0, ("2\n3\n", "", 0)),
@@ -318,7 +337,7 @@ const EACH: [Line; 5] = [
     ("insert", 1, 6, ("2\n1\n3\n", QUOTIENT, 5)),
 ];
 
-const SUMS: [Line; 4] = [
+static SUMS: [Line; 4] = [
     ("insert", 1, 10, ("[1,10,2]\n13\n", "", 0)),
     ("replace", 2, 20, ("[1,10,20]\n31\n", "", 0)),
     ("remove", 0, 0, ("[10,20]\n30\n", "", 0)),
@@ -329,20 +348,14 @@ const SUMS: [Line; 4] = [
 fn edits_on_each_input(rt: HostRuntime) -> Result<(), Fail> {
     let alloc = rt.alloc();
     let mut session = session_of(&rt, "", "6 / .", numbers(alloc, 2)?)?;
-    let mark = mark(alloc)?;
-    check_edits(&rt, &mut session, ("6\n3\n", "", 0), &EACH)?;
-    assert!(rt; mark.is_empty());
-    Ok(())
+    check_marked(&rt, &mut session, ("6\n3\n", "", 0), &EACH)
 }
 
 #[test]
 fn edits_on_all_inputs(rt: HostRuntime) -> Result<(), Fail> {
     let alloc = rt.alloc();
     let mut session = session_of(&rt, "-s", "., add", numbers(alloc, 2)?)?;
-    let mark = mark(alloc)?;
-    check_edits(&rt, &mut session, ("[1,2]\n3\n", "", 0), &SUMS)?;
-    assert!(rt; mark.is_empty());
-    Ok(())
+    check_marked(&rt, &mut session, ("[1,2]\n3\n", "", 0), &SUMS)
 }
 
 #[test]
@@ -350,10 +363,7 @@ fn edits_on_null(rt: HostRuntime) -> Result<(), Fail> {
     let alloc = rt.alloc();
     let filter = "[inputs] | ., add";
     let mut session = session_of(&rt, "-n", filter, numbers(alloc, 2)?)?;
-    let mark = mark(alloc)?;
-    check_edits(&rt, &mut session, ("[1,2]\n3\n", "", 0), &SUMS)?;
-    assert!(rt; mark.is_empty());
-    Ok(())
+    check_marked(&rt, &mut session, ("[1,2]\n3\n", "", 0), &SUMS)
 }
 
 #[test]
@@ -361,10 +371,7 @@ fn edits_of_a_fold(rt: HostRuntime) -> Result<(), Fail> {
     let alloc = rt.alloc();
     let filter = "reduce inputs as $x ([]; . + [$x]) | ., add";
     let mut session = session_of(&rt, "-n", filter, numbers(alloc, 2)?)?;
-    let mark = mark(alloc)?;
-    check_edits(&rt, &mut session, ("[1,2]\n3\n", "", 0), &SUMS)?;
-    assert!(rt; mark.is_empty());
-    Ok(())
+    check_marked(&rt, &mut session, ("[1,2]\n3\n", "", 0), &SUMS)
 }
 
 // A start that finds no memory gives its count of starts back, and is made again with a filter and inputs of its own.
@@ -416,9 +423,7 @@ fn config_again(alloc: Global, row: &str) -> Result<Result<Config, UsageFault>, 
     }
 }
 
-#[test]
-fn words_of_a_run(rt: HostRuntime) -> Result<(), Fail> {
-    let config = config_again(rt.alloc(), "--arg x 5 -n --depth 7 . a b")??;
+fn check_words(rt: &(impl Abort + AllocGlobal), config: &Config) {
     assert_eq!(rt; config.filter.as_str(), ".");
     assert!(rt; config.options.null && !config.options.slurp && !config.live);
     assert_eq!(rt; config.options.depth, 7);
@@ -429,6 +434,12 @@ fn words_of_a_run(rt: HostRuntime) -> Result<(), Fail> {
     assert_eq!(rt; config.options.vars[0].0.as_str(), "x");
     let is_text = matches!(&config.options.vars[0].1, Val::Text(text) if text.as_str() == "5");
     assert!(rt; is_text);
+}
+
+#[test]
+fn words_of_a_run(rt: HostRuntime) -> Result<(), Fail> {
+    let config = config_again(rt.alloc(), "--arg x 5 -n --depth 7 . a b")??;
+    check_words(&rt, &config);
     Ok(())
 }
 

@@ -1,7 +1,7 @@
 // Moves of inputs: how often each starts the filter, and what its splices make of the output.
-use crate::clients::{Client, fresh};
+use crate::clients::{Client, fresh, list};
 use crate::starting::{numbers, started};
-use jq_session::{Refusal, Session};
+use jq_session::{Follow, Refusal, Session};
 use std::process::Abort;
 use std::test::Fail;
 
@@ -15,23 +15,18 @@ fn check_move(
     most: u64,
 ) -> Result<(), Fail> {
     let before = session.starts();
-    let (removal, insertion) = session.shift(k, l)?;
-    client.follow(rt.alloc(), &removal)?;
-    client.follow(rt.alloc(), &insertion)?;
+    let moved = session.shift(k, l)?;
+    let runs = client.follow_move(rt.alloc(), &moved)?;
+    assert_eq!(rt; session.starts().checked_sub(before), Some(runs));
+    assert!(rt; runs <= most, "{k} {l}");
+    assert_eq!(rt; moved.1.status, session.status());
     assert!(rt; (k as usize) < list.len() && (l as usize) < list.len());
     let number = list.remove(k as usize);
     list.insert(l as usize, number)?;
-    let runs = session.starts().checked_sub(before);
-    assert_eq!(rt; runs, removal.runs.checked_add(insertion.runs));
-    assert!(rt;
-        removal.runs.saturating_add(insertion.runs) <= most,
-        "{k} {l}"
-    );
-    assert_eq!(rt; insertion.status, session.status());
     Ok(())
 }
 
-const MOVES: [(u64, u64); 9] = [
+static MOVES: [(u64, u64); 9] = [
     (0, 149),
     (149, 0),
     (64, 63),
@@ -44,7 +39,7 @@ const MOVES: [(u64, u64); 9] = [
 ];
 
 // A filter under a flag, and the most that a move of one of 150 inputs starts it.
-const FILTERS: [(&str, &str, u64); 8] = [
+static FILTERS: [(&str, &str, u64); 8] = [
     ("", "6 / .", 1),
     ("", "if . == 3 then halt else . end", 300),
     ("", "if . == 200 then halt else . end", 300),
@@ -59,25 +54,28 @@ const FILTERS: [(&str, &str, u64); 8] = [
     ),
 ];
 
+// Moves from or to a place that is not there start nothing.
+fn check_no_place(rt: &(impl Abort + AllocGlobal), session: &mut Session, filter: &str) {
+    let starts = session.starts();
+    for (k, l) in [(150, 0), (0, 150), (u64::MAX, 150)] {
+        let refused = session.shift(k, l).err();
+        assert_eq!(rt; refused, Some(Refusal::NoPlace), "{filter}");
+    }
+    assert_eq!(rt; session.starts(), starts);
+}
+
 #[test]
 fn as_a_fresh_session(rt: HostRuntime) -> Result<(), Fail> {
-    for (flag, filter, most) in FILTERS {
+    for row in &FILTERS {
+        let (flag, filter, most) = *row;
         let mut session = started(&rt, flag, filter, numbers(rt.alloc(), 150)?)?;
         let mut client = Client::new(rt.alloc(), &session)?;
-        let mut list = Vec::new(rt.alloc());
-        for number in 1..=150 {
-            list.push(number)?;
-        }
-        for places in MOVES {
-            check_move(&rt, &mut session, &mut client, &mut list, places, most)?;
+        let mut list = list(rt.alloc(), 150)?;
+        for places in &MOVES {
+            check_move(&rt, &mut session, &mut client, &mut list, *places, most)?;
             client.check_same(&rt, filter, &fresh(&rt, (flag, filter), &list)?);
         }
-        let starts = session.starts();
-        for (k, l) in [(150, 0), (0, 150), (u64::MAX, 150)] {
-            let refused = session.shift(k, l);
-            assert_eq!(&rt; refused, Err(Refusal::NoPlace), "{filter}");
-        }
-        assert_eq!(&rt; session.starts(), starts);
+        check_no_place(&rt, &mut session, filter);
         let same = Client::new(rt.alloc(), &session)?;
         client.check_same(&rt, filter, &same);
     }
@@ -88,14 +86,27 @@ fn as_a_fresh_session(rt: HostRuntime) -> Result<(), Fail> {
 #[test]
 fn answers_of_a_move(rt: HostRuntime) -> Result<(), Fail> {
     let mut session = started(&rt, "", "6 / .", numbers(rt.alloc(), 4)?)?;
-    let (removal, insertion) = session.shift(3, 0)?;
-    assert_eq!(&rt; (removal.runs, removal.status), (0, 0));
-    assert_eq!(&rt; (removal.err.at, removal.err.put.len()), (0, 0));
-    assert_eq!(&rt; removal.err.cut, 33);
-    assert_eq!(&rt; (insertion.runs, insertion.status), (1, 5));
-    assert_eq!(&rt; (insertion.err.at, insertion.err.cut), (0, 0));
-    assert_eq!(&rt; insertion.err.put.len(), 33);
-    assert_eq!(&rt; (removal.out.cut, insertion.out.put.len()), (0, 0));
+    check_answers(&rt, &session.shift(3, 0)?);
+    Ok(())
+}
+
+fn check_answers(rt: &impl Abort, (removal, insertion): &(Follow, Follow)) {
+    assert_eq!(rt; (removal.runs, removal.status), (0, 0));
+    assert_eq!(rt; (removal.err.at, removal.err.put.len()), (0, 0));
+    assert_eq!(rt; removal.err.cut, 33);
+    assert_eq!(rt; (insertion.runs, insertion.status), (1, 5));
+    assert_eq!(rt; (insertion.err.at, insertion.err.cut), (0, 0));
+    assert_eq!(rt; insertion.err.put.len(), 33);
+    assert_eq!(rt; (removal.out.cut, insertion.out.put.len()), (0, 0));
+}
+
+fn check_runs(rt: &impl Abort, session: &mut Session, (k, l): (u64, u64)) -> Result<(), Fail> {
+    let before = session.starts();
+    let (removal, insertion) = session.shift(k, l)?;
+    assert!(rt; removal.runs <= 130 && insertion.runs <= 130);
+    let runs = session.starts().checked_sub(before);
+    assert_eq!(rt; runs, Some(removal.runs + insertion.runs));
+    assert_eq!(rt; insertion.status, 0);
     Ok(())
 }
 
@@ -105,12 +116,7 @@ fn a_greatest_input(rt: HostRuntime) -> Result<(), Fail> {
     let filter = "reduce inputs as $x (0; [., $x] | max)";
     let mut session = started(&rt, "-n", filter, numbers(rt.alloc(), 1_000)?)?;
     for places in [(990, 995), (500, 503), (3, 700)] {
-        let before = session.starts();
-        let (removal, insertion) = session.shift(places.0, places.1)?;
-        assert!(&rt; removal.runs <= 130 && insertion.runs <= 130);
-        let runs = session.starts().checked_sub(before);
-        assert_eq!(&rt; runs, Some(removal.runs + insertion.runs));
-        assert_eq!(&rt; insertion.status, 0);
+        check_runs(&rt, &mut session, places)?;
     }
     assert_eq!(&rt; session.out_len(), 5);
     Ok(())

@@ -47,16 +47,19 @@ fn one(alloc: Global, argument: Val) -> Result<Vec<Val>, AllocError> {
     Ok(arguments)
 }
 
+static REVERSALS: [(&str, &str); 4] = [
+    ("[1,2]", "[2,1]"),
+    ("\"aü\"", "\"üa\""),
+    ("null", "[]"),
+    ("[[1],{\"a\":2},3]", "[3,{\"a\":2},[1]]"),
+];
+
 #[test]
 fn reversals(rt: HostRuntime) -> Result<(), Fail> {
     let alloc = rt.alloc();
     let mut rows = Vec::new(alloc);
-    for (value, want) in [
-        ("[1,2]", "[2,1]"),
-        ("\"aü\"", "\"üa\""),
-        ("null", "[]"),
-        ("[[1],{\"a\":2},3]", "[3,{\"a\":2},[1]]"),
-    ] {
+    for row in &REVERSALS {
+        let (value, want) = *row;
         rows.push(Row {
             native: Native::Reverse,
             value: read(alloc, value)?,

@@ -14,7 +14,7 @@ use std::{env, io};
 // 20 of them, and the others have three changes for every two texts: more than a million random bytes and a million changes in all.
 const COUNT: u64 = 1_000_000;
 
-const TEXTS: [&[u8]; 12] = [
+static TEXTS: [&[u8]; 12] = [
     b"{\"a\":[1,\"x\\u0041\"]} [2]",
     b"[1,2.0,-3e2,{\"b\":null,\"a\":{\"c\":[true,false]}}]",
     b"1 2 3 null true false \"a\" [] {}",
@@ -175,12 +175,16 @@ fn check(
         },
     };
     let cut = run(alloc, starts, compiled, pieces);
+    check_same(rt, &text, (&cut, &whole));
+    Ok(())
+}
+
+fn check_same(rt: &(impl Abort + AllocGlobal), text: &[u8], (cut, whole): (&Ran, &Ran)) {
     assert_eq!(rt; cut.result, whole.result, "{text:?} in pieces");
     let (found, wanted) = (cut.outputs.output.device(), whole.outputs.output.device());
     assert_eq!(rt; found.bytes(), wanted.bytes(), "{text:?} in pieces");
     let (found, wanted) = (cut.outputs.errors.device(), whole.outputs.errors.device());
     assert_eq!(rt; found.bytes(), wanted.bytes(), "{text:?} in pieces");
-    Ok(())
 }
 
 #[test]

@@ -51,78 +51,81 @@ fn check(
     Ok(())
 }
 
+static ANSWERS: [(&str, &str, &str); 27] = [
+    ("", ".a", "PerInput"),
+    ("-s", ".", "Whole"),
+    ("-n", "1", "Whole"),
+    ("-n", "first(inputs)", "Whole, reads"),
+    ("-n", "first(inputs), 1", "Whole, reads"),
+    ("-n", "{n: 1, a: [inputs]}", "Whole, reads"),
+    ("-n", "[inputs] + [1]", "Whole, reads"),
+    (
+        "-n",
+        "reduce inputs as $x (0; . + $x) | . * 2",
+        "Fold, reads",
+    ),
+    (
+        "-n",
+        "reduce inputs as {(keys[]): $x} (0; . + $x)",
+        "Fold, reads",
+    ),
+    (
+        "-n",
+        "foreach inputs as [$x] ({a: 0}; 1; 2) | .a",
+        "Fold, reads",
+    ),
+    (
+        "-n",
+        "def f: 1; foreach inputs as [$a] (0; f; .)",
+        "Fold, reads",
+    ),
+    (
+        "-n",
+        "def f: 1; reduce inputs as $x (0; f) | def g: 2; g",
+        "Fold, reads",
+    ),
+    (
+        "-n",
+        "def f(inputs): 1; reduce inputs as $x (0; 1)",
+        "Fold, reads",
+    ),
+    (
+        "-n",
+        "def inputs: 1; reduce inputs as $x (0; . + $x)",
+        "Whole",
+    ),
+    ("-n", "[reduce inputs as $x (0; . + $x)]", "Whole, reads"),
+    (
+        "-n",
+        "label $x | reduce inputs as $x (0; 1)",
+        "Whole, reads",
+    ),
+    ("-n", "reduce inputs as $x (0; 1), 1", "Whole, reads"),
+    (
+        "-n",
+        "reduce inputs as $x (0; 1) as $y | $y",
+        "Whole, reads",
+    ),
+    ("-n", "reduce (inputs | .) as $x (0; 1)", "Whole, reads"),
+    ("-n", "(reduce inputs as $x (0; 1)).a", "Whole, reads"),
+    (
+        "",
+        "f(1; 2)",
+        "Undefined(Function { name: \"f\", arity: 2 })",
+    ),
+    ("", "$y", "Undefined(Variable(\"y\"))"),
+    ("", "break $y", "Undefined(Label(\"y\"))"),
+    ("", "@y", "Undefined(Format(\"y\"))"),
+    ("", ".[1.5]", "Lex { at: 2 }"),
+    ("", ".\u{0}", "Lex { at: 1 }"),
+    ("", "\"\u{0}\"", "PerInput"),
+];
+
 // Plans of filters that fold their inputs and of others, refusals, and texts with a zero byte, which no word of a command has.
 #[test]
 fn answers(rt: HostRuntime) -> Result<(), Fail> {
-    for (flag, filter, want) in [
-        ("", ".a", "PerInput"),
-        ("-s", ".", "Whole"),
-        ("-n", "1", "Whole"),
-        ("-n", "first(inputs)", "Whole, reads"),
-        ("-n", "first(inputs), 1", "Whole, reads"),
-        ("-n", "{n: 1, a: [inputs]}", "Whole, reads"),
-        ("-n", "[inputs] + [1]", "Whole, reads"),
-        (
-            "-n",
-            "reduce inputs as $x (0; . + $x) | . * 2",
-            "Fold, reads",
-        ),
-        (
-            "-n",
-            "reduce inputs as {(keys[]): $x} (0; . + $x)",
-            "Fold, reads",
-        ),
-        (
-            "-n",
-            "foreach inputs as [$x] ({a: 0}; 1; 2) | .a",
-            "Fold, reads",
-        ),
-        (
-            "-n",
-            "def f: 1; foreach inputs as [$a] (0; f; .)",
-            "Fold, reads",
-        ),
-        (
-            "-n",
-            "def f: 1; reduce inputs as $x (0; f) | def g: 2; g",
-            "Fold, reads",
-        ),
-        (
-            "-n",
-            "def f(inputs): 1; reduce inputs as $x (0; 1)",
-            "Fold, reads",
-        ),
-        (
-            "-n",
-            "def inputs: 1; reduce inputs as $x (0; . + $x)",
-            "Whole",
-        ),
-        ("-n", "[reduce inputs as $x (0; . + $x)]", "Whole, reads"),
-        (
-            "-n",
-            "label $x | reduce inputs as $x (0; 1)",
-            "Whole, reads",
-        ),
-        ("-n", "reduce inputs as $x (0; 1), 1", "Whole, reads"),
-        (
-            "-n",
-            "reduce inputs as $x (0; 1) as $y | $y",
-            "Whole, reads",
-        ),
-        ("-n", "reduce (inputs | .) as $x (0; 1)", "Whole, reads"),
-        ("-n", "(reduce inputs as $x (0; 1)).a", "Whole, reads"),
-        (
-            "",
-            "f(1; 2)",
-            "Undefined(Function { name: \"f\", arity: 2 })",
-        ),
-        ("", "$y", "Undefined(Variable(\"y\"))"),
-        ("", "break $y", "Undefined(Label(\"y\"))"),
-        ("", "@y", "Undefined(Format(\"y\"))"),
-        ("", ".[1.5]", "Lex { at: 2 }"),
-        ("", ".\u{0}", "Lex { at: 1 }"),
-        ("", "\"\u{0}\"", "PerInput"),
-    ] {
+    for row in &ANSWERS {
+        let (flag, filter, want) = *row;
         check(&rt, flag, filter, want)?;
     }
     Ok(())
@@ -134,38 +137,41 @@ fn halts(alloc: Global, filter: &str) -> Result<bool, Fail> {
     Ok(program.halts())
 }
 
+static HALTS: [(&str, bool); 27] = [
+    ("halt", true),
+    ("halt_error", true),
+    ("halt_error(1)", true),
+    (".", false),
+    ("\"halt\", .halt, {halt: 1}, $x", false),
+    ("error(1)", false),
+    ("first(1, halt)", true),
+    ("\"a\\(halt)b\"", true),
+    ("{(halt): 1}", true),
+    (". as {(halt): $y} | 1", true),
+    ("reduce .[] as $y (0; halt)", true),
+    (".a |= halt", true),
+    ("def f: halt; 1", true),
+    ("def f: halt; f", true),
+    ("def f(g): def h: halt_error; 1; f(2)", true),
+    ("def halt: 1; halt", false),
+    ("halt, (def halt: 1; halt)", true),
+    ("def halt_error(f): f; halt_error(1)", false),
+    ("def halt_error(f): f; halt_error", true),
+    ("def halt_error: 1; halt_error", false),
+    ("def halt_error: 1; halt_error(1)", true),
+    ("def halt_error: halt_error(1); 1", true),
+    ("def f(halt): halt; f(1)", false),
+    ("def f(halt): halt; f(1) | halt", true),
+    ("def f(halt_error): halt_error; f(1)", false),
+    ("label $halt | 1 as $halt | break $halt", false),
+    (". as $halt | halt", true),
+];
+
 // Calls of functions that halt, wherever they stand, and names that the filter binds itself.
 #[test]
 fn filters_that_may_halt(rt: HostRuntime) -> Result<(), Fail> {
-    for (filter, want) in [
-        ("halt", true),
-        ("halt_error", true),
-        ("halt_error(1)", true),
-        (".", false),
-        ("\"halt\", .halt, {halt: 1}, $x", false),
-        ("error(1)", false),
-        ("first(1, halt)", true),
-        ("\"a\\(halt)b\"", true),
-        ("{(halt): 1}", true),
-        (". as {(halt): $y} | 1", true),
-        ("reduce .[] as $y (0; halt)", true),
-        (".a |= halt", true),
-        ("def f: halt; 1", true),
-        ("def f: halt; f", true),
-        ("def f(g): def h: halt_error; 1; f(2)", true),
-        ("def halt: 1; halt", false),
-        ("halt, (def halt: 1; halt)", true),
-        ("def halt_error(f): f; halt_error(1)", false),
-        ("def halt_error(f): f; halt_error", true),
-        ("def halt_error: 1; halt_error", false),
-        ("def halt_error: 1; halt_error(1)", true),
-        ("def halt_error: halt_error(1); 1", true),
-        ("def f(halt): halt; f(1)", false),
-        ("def f(halt): halt; f(1) | halt", true),
-        ("def f(halt_error): halt_error; f(1)", false),
-        ("label $halt | 1 as $halt | break $halt", false),
-        (". as $halt | halt", true),
-    ] {
+    for row in &HALTS {
+        let (filter, want) = *row;
         let found = halts(rt.alloc(), filter)?;
         assert!(rt; found == want, "{filter}: {found}");
     }

@@ -76,14 +76,13 @@ struct Row {
 
 fn check(
     rt: &(impl Abort + AllocGlobal),
-    session: Host,
+    host: &mut Host,
     follow: bool,
     row: &Row,
 ) -> Result<(), Fail> {
     let alloc = rt.alloc();
-    let mut host = session;
     let mark = mark(alloc)?;
-    let (result, told) = serve_to(alloc, follow, &mut host, row.script, row.answers);
+    let (result, told) = serve_to(alloc, follow, host, row.script, row.answers);
     match result {
         Ok(()) => assert!(rt;
             told.first.is_whole() || told.second.is_whole(),
@@ -99,7 +98,7 @@ fn check(
             );
         }
     }
-    let shown = shown_again(alloc, &mut host, row.shown)?;
+    let shown = shown_again(alloc, host, row.shown)?;
     check_shown(rt, (&told, &shown), row);
     assert!(rt; mark.is_empty());
     Ok(())
@@ -123,7 +122,7 @@ fn an_edit(rt: HostRuntime) -> Result<(), Fail> {
         ),
         shown: ("out 6\n1\n2\n3\n", "out 4\n1\n2\n"),
     };
-    check(&rt, host(&rt)?, false, &row)
+    check(&rt, &mut host(&rt)?, false, &row)
 }
 
 #[test]
@@ -136,7 +135,7 @@ fn a_move(rt: HostRuntime) -> Result<(), Fail> {
         ),
         shown: ("out 4\n2\n1\n", "out 4\n1\n2\n"),
     };
-    check(&rt, host(&rt)?, true, &row)
+    check(&rt, &mut host(&rt)?, true, &row)
 }
 
 #[test]
@@ -149,5 +148,5 @@ fn another_filter(rt: HostRuntime) -> Result<(), Fail> {
         ),
         shown: ("out 6\n10\n20\n", "out 4\n1\n2\n"),
     };
-    check(&rt, host(&rt)?, true, &row)
+    check(&rt, &mut host(&rt)?, true, &row)
 }

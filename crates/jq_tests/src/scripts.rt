@@ -14,7 +14,7 @@ use std::test::Fail;
 type Line = (&'static str, &'static str, &'static str);
 
 // A script over the inputs 1 and 2, which are printed at first. Its last line has no newline.
-const LINES: [Line; 11] = [
+static LINES: [Line; 11] = [
     ("insert 9 1\n", "refused 20\n", ""),
     ("replace 0 [1\n", "refused 21\n", ""),
     ("insert 2 3\n", "ok 0\n", "out 4 0 2\n3\nerr 0 0 0\n"),
@@ -115,20 +115,33 @@ fn check_reader(
     // The call after the one that returns no bytes is never made.
     let is_made = fails.saturating_sub(2).saturating_mul(most) < script.len();
     let count = fails.saturating_sub(1).saturating_mul(most);
-    let named = format!(in alloc; "{follow}: {most} bytes a call, call {fails} fails")?;
-    let want = if is_made {
-        assert_eq!(rt; result, Err(StreamFault::Read), "{named}");
-        assert_eq!(rt; input.failures(), 1, "{named}");
-        assert_eq!(rt; input.device().calls(), fails, "{named}");
-        answers(alloc, follow, (count, false))?
+    let read = if is_made {
+        (count, false)
     } else {
-        assert_eq!(rt; result, Ok(()), "{named}");
-        assert_eq!(rt; input.failures(), 0, "{named}");
-        answers(alloc, follow, (script.len(), true))?
+        (script.len(), true)
     };
+    let want = answers(alloc, follow, read)?;
+    let named = format!(in alloc; "{follow}: {most} bytes a call, call {fails} fails")?;
+    let call = if is_made { Some(fails) } else { None };
+    check_read(rt, named.as_str(), result, (&input, call));
     assert_eq!(rt; output.device().bytes(), want.as_bytes(), "{named}");
     assert_eq!(rt; output.failures(), 0, "{named}");
     Ok(())
+}
+
+// The reader failed at the call of this number, which was the last, or at none.
+fn check_read(
+    rt: &(impl Abort + AllocGlobal),
+    named: &str,
+    ended: Result<(), StreamFault>,
+    (input, call): (&Watched<Bytes<'_>>, Option<usize>),
+) {
+    if let Some(call) = call {
+        let found = (ended, input.failures(), input.device().calls());
+        assert_eq!(rt; found, (Err(StreamFault::Read), 1, call), "{named}");
+    } else {
+        assert_eq!(rt; (ended, input.failures()), (Ok(()), 0), "{named}");
+    }
 }
 
 // The lines before the failure are answered, and the begun line is not.
@@ -212,16 +225,41 @@ fn check_writer(
         return Ok(false);
     }
     let named = format!(in alloc; "{follow}: {most} bytes a call, call {fails} fails")?;
-    assert_eq!(rt; result, Err(StreamFault::Write), "{named}");
-    assert_eq!(rt; output.device().calls(), fails, "{named}");
-    assert_eq!(rt; output.failures(), 1, "{named}");
+    check_write(rt, named.as_str(), result, (&output, fails));
     assert_eq!(rt; input.failures(), 0, "{named}");
     let (given, written) = (input.device().given(), output.device().bytes());
-    let before = answers(alloc, follow, (given.saturating_sub(most), false))?;
-    let all = answers(alloc, follow, (given, given == script.len()))?;
-    assert!(rt; written.starts_with(before.as_bytes()), "{named}");
-    assert!(rt; all.as_bytes().starts_with(written), "{named}");
+    let before = (given.saturating_sub(most), false);
+    let all = (given, given == script.len());
+    assert!(rt;
+        is_between(alloc, follow, (before, all), written)?,
+        "{named}"
+    );
     Ok(true)
+}
+
+// The writer failed at the call of this number, which was the last.
+fn check_write(
+    rt: &(impl Abort + AllocGlobal),
+    named: &str,
+    ended: Result<(), StreamFault>,
+    (output, call): (&Watched<Kept>, usize),
+) {
+    let found = (ended, output.failures(), output.device().calls());
+    assert_eq!(rt; found, (Err(StreamFault::Write), 1, call), "{named}");
+}
+
+// Whether what is written begins with the first of these answers, and is a first part of the second.
+fn is_between(
+    alloc: Global,
+    follow: bool,
+    (before, all): ((usize, bool), (usize, bool)),
+    written: &[u8],
+) -> Result<bool, AllocError> {
+    let (before, all) = (
+        answers(alloc, follow, before)?,
+        answers(alloc, follow, all)?,
+    );
+    Ok(written.starts_with(before.as_bytes()) && all.as_bytes().starts_with(written))
 }
 
 // Each call of the writer fails in turn. There is one for each answer at least, and one for each flush.

@@ -36,9 +36,40 @@ fn check_moves(
     Ok(())
 }
 
+// The same after the mark.
+fn check_marked(
+    rt: &(impl Abort + AllocGlobal),
+    session: &mut Session,
+    first: State,
+    moves: &[Move],
+) -> Result<(), Fail> {
+    let mark = mark(rt.alloc())?;
+    check_moves(rt, session, first, moves)?;
+    assert!(rt; mark.is_empty());
+    Ok(())
+}
+
 const QUOTIENT: &str = "jq: error: quotient is not whole\n";
 
-const LISTS: [Move; 3] = [
+const FOLD: &str = "reduce inputs as $x ([]; . + [$x]) | ., add";
+
+const QUOTIENTS: State = ("6\n3\n2\n", QUOTIENT, 5);
+
+const SUMS: State = ("[1,2,3,4]\n10\n", "", 0);
+
+static EACH: [Move; 3] = [
+    (3, 1, ("6\n3\n2\n", QUOTIENT, 5)),
+    (0, 3, ("3\n2\n6\n", QUOTIENT, 5)),
+    (2, 0, ("2\n3\n6\n", QUOTIENT, 5)),
+];
+
+static HALTS: [Move; 3] = [
+    (2, 3, ("1\n2\n4\n", "", 0)),
+    (3, 0, ("", "", 0)),
+    (0, 1, ("1\n", "", 0)),
+];
+
+static LISTS: [Move; 3] = [
     (0, 3, ("[2,3,4,1]\n10\n", "", 0)),
     (2, 1, ("[2,4,3,1]\n10\n", "", 0)),
     (1, 1, ("[2,4,3,1]\n10\n", "", 0)),
@@ -48,19 +79,7 @@ const LISTS: [Move; 3] = [
 fn moves_on_each_input(rt: HostRuntime) -> Result<(), Fail> {
     let alloc = rt.alloc();
     let mut session = started(&rt, "", "6 / .", numbers(alloc, 4)?)?;
-    let mark = mark(alloc)?;
-    check_moves(
-        &rt,
-        &mut session,
-        ("6\n3\n2\n", QUOTIENT, 5),
-        &[
-            (3, 1, ("6\n3\n2\n", QUOTIENT, 5)),
-            (0, 3, ("3\n2\n6\n", QUOTIENT, 5)),
-            (2, 0, ("2\n3\n6\n", QUOTIENT, 5)),
-        ],
-    )?;
-    assert!(rt; mark.is_empty());
-    Ok(())
+    check_marked(&rt, &mut session, QUOTIENTS, &EACH)
 }
 
 #[test]
@@ -68,40 +87,21 @@ fn moves_up_to_a_halt(rt: HostRuntime) -> Result<(), Fail> {
     let alloc = rt.alloc();
     let filter = "if . == 3 then halt else . end";
     let mut session = started(&rt, "", filter, numbers(alloc, 4)?)?;
-    let mark = mark(alloc)?;
-    check_moves(
-        &rt,
-        &mut session,
-        ("1\n2\n", "", 0),
-        &[
-            (2, 3, ("1\n2\n4\n", "", 0)),
-            (3, 0, ("", "", 0)),
-            (0, 1, ("1\n", "", 0)),
-        ],
-    )?;
-    assert!(rt; mark.is_empty());
-    Ok(())
+    check_marked(&rt, &mut session, ("1\n2\n", "", 0), &HALTS)
 }
 
 #[test]
 fn moves_on_all_inputs(rt: HostRuntime) -> Result<(), Fail> {
     let alloc = rt.alloc();
     let mut session = started(&rt, "-s", "., add", numbers(alloc, 4)?)?;
-    let mark = mark(alloc)?;
-    check_moves(&rt, &mut session, ("[1,2,3,4]\n10\n", "", 0), &LISTS)?;
-    assert!(rt; mark.is_empty());
-    Ok(())
+    check_marked(&rt, &mut session, SUMS, &LISTS)
 }
 
 #[test]
 fn moves_in_a_fold(rt: HostRuntime) -> Result<(), Fail> {
     let alloc = rt.alloc();
-    let filter = "reduce inputs as $x ([]; . + [$x]) | ., add";
-    let mut session = started(&rt, "-n", filter, numbers(alloc, 4)?)?;
-    let mark = mark(alloc)?;
-    check_moves(&rt, &mut session, ("[1,2,3,4]\n10\n", "", 0), &LISTS)?;
-    assert!(rt; mark.is_empty());
-    Ok(())
+    let mut session = started(&rt, "-n", FOLD, numbers(alloc, 4)?)?;
+    check_marked(&rt, &mut session, SUMS, &LISTS)
 }
 
 // The session takes another filter. If it finds no memory, the session and its count are as they were, and the filter, compiled a
@@ -132,11 +132,19 @@ fn check_filter(
     }
 }
 
-const FOLD: &str = "reduce inputs as $x ([]; . + [$x]) | ., add";
-
-const QUOTIENTS: State = ("6\n3\n2\n", QUOTIENT, 5);
-
-const SUMS: State = ("[1,2,3,4]\n10\n", "", 0);
+// The same after the mark.
+fn check_taken(
+    rt: &(impl Abort + AllocGlobal),
+    session: &mut Session,
+    starts: Starts,
+    filters: (Filter, Filter),
+    states: (State, State),
+) -> Result<(), Fail> {
+    let mark = mark(rt.alloc())?;
+    check_filter(rt, session, starts, filters, states)?;
+    assert!(rt; mark.is_empty());
+    Ok(())
+}
 
 #[test]
 fn from_each_input_to_a_fold(rt: HostRuntime) -> Result<(), Fail> {
@@ -146,16 +154,8 @@ fn from_each_input_to_a_fold(rt: HostRuntime) -> Result<(), Fail> {
         compile_under(alloc, "-n", FOLD)?,
         compile_under(alloc, "-n", FOLD)?,
     );
-    let mark = mark(alloc)?;
-    check_filter(
-        &rt,
-        &mut session,
-        Starts::new(&rt),
-        filters,
-        (QUOTIENTS, SUMS),
-    )?;
-    assert!(rt; mark.is_empty());
-    Ok(())
+    let states = (QUOTIENTS, SUMS);
+    check_taken(&rt, &mut session, Starts::new(&rt), filters, states)
 }
 
 #[test]
@@ -166,16 +166,8 @@ fn from_a_fold_to_each_input(rt: HostRuntime) -> Result<(), Fail> {
         compile_under(alloc, "", "6 / .")?,
         compile_under(alloc, "", "6 / .")?,
     );
-    let mark = mark(alloc)?;
-    check_filter(
-        &rt,
-        &mut session,
-        Starts::new(&rt),
-        filters,
-        (SUMS, QUOTIENTS),
-    )?;
-    assert!(rt; mark.is_empty());
-    Ok(())
+    let states = (SUMS, QUOTIENTS);
+    check_taken(&rt, &mut session, Starts::new(&rt), filters, states)
 }
 
 #[test]
@@ -188,8 +180,5 @@ fn from_all_inputs_to_a_halt(rt: HostRuntime) -> Result<(), Fail> {
         compile_under(alloc, "", halts)?,
     );
     let states = (("10\n", "", 0), ("1\n2\n", "", 0));
-    let mark = mark(alloc)?;
-    check_filter(&rt, &mut session, Starts::new(&rt), filters, states)?;
-    assert!(rt; mark.is_empty());
-    Ok(())
+    check_taken(&rt, &mut session, Starts::new(&rt), filters, states)
 }

@@ -55,75 +55,88 @@ fn check(
         Val::Null,
         depth,
     )?;
+    check_answers(rt, filter, &mut engine, answers)
+}
+
+fn check_answers(
+    rt: &(impl Abort + AllocGlobal),
+    filter: &str,
+    engine: &mut Engine<'_>,
+    answers: &[&str],
+) -> Result<(), Fail> {
     for answer in answers {
-        let found = shown(alloc, &engine.next())?;
+        let found = shown(rt.alloc(), &engine.next())?;
         assert_eq!(rt; found.as_str(), *answer, "{filter}");
     }
     Ok(())
 }
 
+static ENDLESS: [(&str, [&str; 3]); 12] = [
+    ("range(0; 9223372036854775807)", ["0", "1", "2"]),
+    ("range(9223372036854775807) | . * 2", ["0", "2", "4"]),
+    ("1 | repeat(1)", ["1", "1", "1"]),
+    ("recurse([.])", ["null", "[null]", "[[null]]"]),
+    ("def f: ., (. + 1 | f); 0 | f", ["0", "1", "2"]),
+    ("0 | while(true; . + 3)", ["0", "3", "6"]),
+    (
+        "foreach range(9223372036854775807) as $x (0; . + $x)",
+        ["0", "1", "3"],
+    ),
+    (
+        "range(9223372036854775807) as $x | {a: $x}",
+        ["{\"a\":0}", "{\"a\":1}", "{\"a\":2}"],
+    ),
+    ("path(recurse(.a))", ["[]", "[\"a\"]", "[\"a\",\"a\"]"]),
+    ("first(range(1; 3)), (4 | repeat(4))", ["1", "4", "4"]),
+    ("5 | try repeat(5) catch 6", ["5", "5", "5"]),
+    (
+        "label $o | 7 | repeat(7) | ., if . == 8 then break $o else empty end",
+        ["7", "7", "7"],
+    ),
+];
+
 // Each output comes before the next one is computed, so a run needs no end.
 #[test]
 fn runs_without_an_end(rt: HostRuntime) -> Result<(), Fail> {
     let mut starts = Starts::new(&rt);
-    for (filter, answers) in [
-        ("range(0; 9223372036854775807)", ["0", "1", "2"]),
-        ("range(9223372036854775807) | . * 2", ["0", "2", "4"]),
-        ("1 | repeat(1)", ["1", "1", "1"]),
-        ("recurse([.])", ["null", "[null]", "[[null]]"]),
-        ("def f: ., (. + 1 | f); 0 | f", ["0", "1", "2"]),
-        ("0 | while(true; . + 3)", ["0", "3", "6"]),
-        (
-            "foreach range(9223372036854775807) as $x (0; . + $x)",
-            ["0", "1", "3"],
-        ),
-        (
-            "range(9223372036854775807) as $x | {a: $x}",
-            ["{\"a\":0}", "{\"a\":1}", "{\"a\":2}"],
-        ),
-        ("path(recurse(.a))", ["[]", "[\"a\"]", "[\"a\",\"a\"]"]),
-        ("first(range(1; 3)), (4 | repeat(4))", ["1", "4", "4"]),
-        ("5 | try repeat(5) catch 6", ["5", "5", "5"]),
-        (
-            "label $o | 7 | repeat(7) | ., if . == 8 then break $o else empty end",
-            ["7", "7", "7"],
-        ),
-    ] {
-        check(&rt, &mut starts, (filter, 10_000), &answers)?;
+    for (filter, answers) in &ENDLESS {
+        check(&rt, &mut starts, (*filter, 10_000), answers)?;
     }
     Ok(())
 }
+
+static ENDING: [(&str, [&str; 4]); 8] = [
+    ("1, 2", ["1", "2", "done", "done"]),
+    (
+        "limit(2; range(9223372036854775807))",
+        ["0", "1", "done", "done"],
+    ),
+    (
+        "[7 | limit(2; repeat(7))], 8",
+        ["[7,7]", "8", "done", "done"],
+    ),
+    (
+        "first(range(9223372036854775807)), 3",
+        ["0", "3", "done", "done"],
+    ),
+    ("label $o | 1, 2, break $o, 3", ["1", "2", "done", "done"]),
+    (
+        "1, error(\"x\"), 2",
+        ["1", "raised \"x\"", "raised \"x\"", "raised \"x\""],
+    ),
+    ("[2], halt, 3", ["[2]", "halted", "halted", "halted"]),
+    (
+        "1, ({a: 2} | halt_error), 3",
+        ["1", "halted", "halted", "halted"],
+    ),
+];
 
 // After the last output comes the ending, and then the ending again.
 #[test]
 fn runs_with_an_end(rt: HostRuntime) -> Result<(), Fail> {
     let mut starts = Starts::new(&rt);
-    for (filter, answers) in [
-        ("1, 2", ["1", "2", "done", "done"]),
-        (
-            "limit(2; range(9223372036854775807))",
-            ["0", "1", "done", "done"],
-        ),
-        (
-            "[7 | limit(2; repeat(7))], 8",
-            ["[7,7]", "8", "done", "done"],
-        ),
-        (
-            "first(range(9223372036854775807)), 3",
-            ["0", "3", "done", "done"],
-        ),
-        ("label $o | 1, 2, break $o, 3", ["1", "2", "done", "done"]),
-        (
-            "1, error(\"x\"), 2",
-            ["1", "raised \"x\"", "raised \"x\"", "raised \"x\""],
-        ),
-        ("[2], halt, 3", ["[2]", "halted", "halted", "halted"]),
-        (
-            "1, ({a: 2} | halt_error), 3",
-            ["1", "halted", "halted", "halted"],
-        ),
-    ] {
-        check(&rt, &mut starts, (filter, 10_000), &answers)?;
+    for (filter, answers) in &ENDING {
+        check(&rt, &mut starts, (*filter, 10_000), answers)?;
     }
     check(
         &rt,
